@@ -1,0 +1,33 @@
+-- One turn of a loop over a list, for what the specifications say by recursion on it.
+use Prim.Native.Nat.{ℕ, _+_, suc, _<_, _≤_}
+use mathlib.Core.Bool.{Bool, true, false, cond, _||_}
+use mathlib.Core.List.{List, [], _∷_}
+use mathlib.Core.Path.{_≡_, sym, ap, _∙_}
+use lib.Dec.{eqb}
+use lib.ListN.{length, getD, drop}
+use Rattle.std.proofs.shelf.Lists.{at-drop-more, at-drop-all, getD-read}
+use Rattle.events.specs.Sameness.{sameLists}
+use Rattle.book.specs.Signs.{firstPlace}
+use Rattle.book.specs.Cues.{total, hasSame, partOf}
+use Rattle.book.specs.declared.cue.Cue.{Cue}
+
+pub firstPlace-more : {E : Type 0} (same : E → E → Bool) (ms : List E) (e : E) (i : ℕ) (m : E) → i < length ms → m ≡ getD ms i m →
+    firstPlace same (drop i ms) e ≡ cond (same m e) 0 (suc (firstPlace same (drop (i + 1) ms) e))
+firstPlace-more same ms e i m h is =
+    at-drop-more (λ xs. firstPlace same xs e) ms i m h ∙ ap (λ x. cond (same x e) 0 (suc (firstPlace same (drop (i + 1) ms) e))) (sym is)
+
+pub firstPlace-all : {E : Type 0} (same : E → E → Bool) (ms : List E) (e : E) (i : ℕ) → length ms ≤ i → firstPlace same (drop i ms) e ≡ 0
+firstPlace-all same ms e i h = at-drop-all (λ xs. firstPlace same xs e) ms i h
+
+pub total-more : (cues : List Cue) (i : ℕ) (d : Cue) → i < length cues → total (drop i cues) ≡ getD cues i d .len + total (drop (i + 1) cues)
+total-more cues i d h = at-drop-more total cues i d h
+
+pub total-all : (cues : List Cue) (i : ℕ) → length cues ≤ i → total (drop i cues) ≡ 0
+total-all cues i h = at-drop-all total cues i h
+
+pub hasSame-more : (signs : List ℕ) (cues : List Cue) (given : Cue) (i : ℕ) (d : Cue) → i < length cues →
+    hasSame eqb signs (drop i cues) given ≡ (sameLists eqb (partOf signs (getD cues i d)) (partOf signs given) || hasSame eqb signs (drop (i + 1) cues) given)
+hasSame-more signs cues given i d h = at-drop-more (λ xs. hasSame eqb signs xs given) cues i d h
+
+pub hasSame-all : (signs : List ℕ) (cues : List Cue) (given : Cue) (i : ℕ) → length cues ≤ i → hasSame eqb signs (drop i cues) given ≡ false
+hasSame-all signs cues given i h = at-drop-all (λ xs. hasSame eqb signs xs given) cues i h

@@ -1,0 +1,4 @@
+pub mod Signs
+pub mod Cues
+pub mod Held
+pub mod Bridge
