@@ -5,13 +5,12 @@ use mathlib.Core.List.{List, [], _∷_, _++_}
 use mathlib.Core.Logic.{_⊎_, ⊎-elim}
 use mathlib.Core.Path.{_≡_, refl, sym, ap, subst, _∙_}
 use native.Mathlib.Omega.{arith}
-use lib.Dec.{eqb}
 use lib.ListN.{length, getD}
 use Rattle.std.proofs.shelf.Lists.{getD-append-left, getD-at, length-push}
 use Rattle.std.proofs.shelf.Tests.{cases-lt}
 use Rattle.std.specs.declared.option.Option.the-variants.{None}
-use Rattle.events.specs.Sameness.{sameLists}
-use Rattle.book.specs.Cues.{addRefusal, cueAt, partOf, total, hasSame, noTwoSame, Within, AllWithin}
+use Rattle.matching.specs.Match.{listed, distinct, same as equal}
+use Rattle.book.specs.Cues.{addRefusal, cueAt, total, Within, AllWithin}
 use Rattle.book.specs.declared.cue.Cue.{Cue}
 
 pub total-push : (cues : List Cue) (c : Cue) → total (cues ++ c ∷ []) ≡ total cues + c .len
@@ -25,20 +24,19 @@ within-push n cues c all one k d h =
     (λ (b : length cues ≤ k). subst (Within n) (sym (getD-at cues c [] d k (omega arith))) one)
     (cases-lt k (length cues))
 
-same-sym : (xs ys : List ℕ) → sameLists eqb xs ys ≡ sameLists eqb ys xs
-same-sym [] [] = refl
-same-sym [] (y ∷ ys) = refl
-same-sym (x ∷ xs) [] = refl
-same-sym (x ∷ xs) (y ∷ ys) = grind (arith, same-sym xs ys)
+equal-sym : (xs ys : List ℕ) → equal xs ys ≡ equal ys xs
+equal-sym [] [] = refl
+equal-sym [] (y ∷ ys) = refl
+equal-sym (x ∷ xs) [] = refl
+equal-sym (x ∷ xs) (y ∷ ys) = grind (arith, equal-sym xs ys)
 
-has-push : (signs : List ℕ) (cues : List Cue) (c given : Cue) → hasSame eqb signs (cues ++ c ∷ []) given ≡ (hasSame eqb signs cues given || sameLists eqb (partOf signs c) (partOf signs given))
-has-push signs [] c given = grind arith
-has-push signs (d ∷ cues) c given = grind (arith, has-push signs cues c given)
+listed-push : (cues : List (List ℕ)) (c t : List ℕ) → listed (cues ++ c ∷ []) t ≡ (listed cues t || equal c t)
+listed-push [] c t = grind arith
+listed-push (d ∷ cues) c t = grind (arith, listed-push cues c t)
 
-pub apart-push : (signs : List ℕ) (cues : List Cue) (c : Cue) → noTwoSame eqb signs cues ≡ true → hasSame eqb signs cues c ≡ false → noTwoSame eqb signs (cues ++ c ∷ []) ≡ true
-apart-push signs [] c a h = refl
-apart-push signs (d ∷ cues) c a h =
-    grind (arith, apart-push signs cues c, has-push signs cues c d, same-sym (partOf signs c) (partOf signs d))
+pub distinct-push : (cues : List (List ℕ)) (c : List ℕ) → distinct cues ≡ true → listed cues c ≡ false → distinct (cues ++ c ∷ []) ≡ true
+distinct-push [] c a h = refl
+distinct-push (d ∷ cues) c a h = grind (arith, distinct-push cues c, listed-push cues c d, equal-sym c d)
 
 -- A cue that is not refused keeps what a book keeps.
 pub record Granted (material : ℕ) (cues : List Cue) (there : Bool) (place len : ℕ) : Type 0 where

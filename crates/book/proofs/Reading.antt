@@ -3,12 +3,11 @@ use Prim.Native.Nat.{ℕ, _+_, suc, _<_, _≤_}
 use mathlib.Core.Bool.{Bool, true, false, cond, _||_}
 use mathlib.Core.List.{List, [], _∷_}
 use mathlib.Core.Path.{_≡_, sym, ap, _∙_}
-use lib.Dec.{eqb}
 use lib.ListN.{length, getD, drop}
-use Rattle.std.proofs.shelf.Lists.{at-drop-more, at-drop-all, getD-read}
-use Rattle.events.specs.Sameness.{sameLists}
+use Rattle.std.proofs.shelf.Lists.{at-drop-more, at-drop-all}
+use Rattle.matching.specs.Match.{listed, same as equal}
 use Rattle.book.specs.Signs.{firstPlace}
-use Rattle.book.specs.Cues.{total, hasSame, partOf}
+use Rattle.book.specs.Cues.{total, partOf, partsOf}
 use Rattle.book.specs.declared.cue.Cue.{Cue}
 
 pub firstPlace-more : {E : Type 0} (same : E → E → Bool) (ms : List E) (e : E) (i : ℕ) (m : E) → i < length ms → m ≡ getD ms i m →
@@ -25,9 +24,9 @@ total-more cues i d h = at-drop-more total cues i d h
 pub total-all : (cues : List Cue) (i : ℕ) → length cues ≤ i → total (drop i cues) ≡ 0
 total-all cues i h = at-drop-all total cues i h
 
-pub hasSame-more : (signs : List ℕ) (cues : List Cue) (given : Cue) (i : ℕ) (d : Cue) → i < length cues →
-    hasSame eqb signs (drop i cues) given ≡ (sameLists eqb (partOf signs (getD cues i d)) (partOf signs given) || hasSame eqb signs (drop (i + 1) cues) given)
-hasSame-more signs cues given i d h = at-drop-more (λ xs. hasSame eqb signs xs given) cues i d h
+pub listed-more : (signs : List ℕ) (cues : List Cue) (given : List ℕ) (i : ℕ) (d : Cue) → i < length cues →
+    listed (partsOf signs (drop i cues)) given ≡ (equal (partOf signs (getD cues i d)) given || listed (partsOf signs (drop (i + 1) cues)) given)
+listed-more signs cues given i d h = at-drop-more (λ xs. listed (partsOf signs xs) given) cues i d h
 
-pub hasSame-all : (signs : List ℕ) (cues : List Cue) (given : Cue) (i : ℕ) → length cues ≤ i → hasSame eqb signs (drop i cues) given ≡ false
-hasSame-all signs cues given i h = at-drop-all (λ xs. hasSame eqb signs xs given) cues i h
+pub listed-all : (signs : List ℕ) (cues : List Cue) (given : List ℕ) (i : ℕ) → length cues ≤ i → listed (partsOf signs (drop i cues)) given ≡ false
+listed-all signs cues given i h = at-drop-all (λ xs. listed (partsOf signs xs) given) cues i h

@@ -14,9 +14,10 @@ use Rattle.std.proofs.shelf.Lists.{map-append, take-map, drop-map, drop-append-
 use Rattle.std.proofs.shelf.Elements.{all-take, all-drop, all-from-getD}
 use Rattle.std.proofs.shelf.Tests.{cases-bool, ltb-true, ltb-false, lt-ltb, le-ltb, eqb-true, eqb-false, eq-eqb, ne-eqb, cases-lt, both-ways, cond-both}
 use Rattle.std.specs.shelf.Lists.{All}
+use Rattle.matching.specs.Match.{listed, same as equal}
 use Rattle.events.specs.Sameness.{Lawful, sameLists}
 use Rattle.book.specs.Signs.{firstPlace, signOf, signsOf}
-use Rattle.book.specs.Cues.{part, partOf, hasSame}
+use Rattle.book.specs.Cues.{part, partOf, partsOf, hasSame}
 use Rattle.book.specs.Held.{Held, Signed}
 use Rattle.book.specs.Bridge.{SignTells, CuesEnd}
 use Rattle.book.specs.declared.cue.Cue.{Cue}
@@ -85,7 +86,7 @@ all-telling same law [] short = tt
 all-telling same law (m ∷ ms) short = all-from-getD (Telling same (m ∷ ms)) (m ∷ ms) m (λ i h e. sign-tells same law (m ∷ ms) short e i m h)
 
 -- Lists of material events are the same as others exactly where their signs are equal.
-signs-same : {E : Type 0} (same : E → E → Bool) (material xs ys : List E) → All (Telling same material) xs → sameLists eqb (signsOf same material xs) (signsOf same material ys) ≡ sameLists same xs ys
+signs-same : {E : Type 0} (same : E → E → Bool) (material xs ys : List E) → All (Telling same material) xs → equal (signsOf same material xs) (signsOf same material ys) ≡ sameLists same xs ys
 signs-same same material [] [] a = refl
 signs-same same material [] (y ∷ ys) a = refl
 signs-same same material (x ∷ xs) [] a = refl
@@ -101,7 +102,7 @@ part-telling same law material short place len = all-take _ len _ (all-drop _ pl
 
 -- Two parts have equal signs exactly where their events are the same.
 pub parts-same : {E : Type 0} (same : E → E → Bool) → Lawful same → (material : List E) (signs : List ℕ) → length material ≤ 2048 → signs ≡ signsOf same material material → (c d : Cue) →
-    sameLists eqb (partOf signs c) (partOf signs d) ≡ sameLists same (partOf material c) (partOf material d)
+    equal (partOf signs c) (partOf signs d) ≡ sameLists same (partOf material c) (partOf material d)
 parts-same same law material signs short signed c d =
     let p = part-signs same material signs signed (c .place) (c .len) in
     let q = part-signs same material signs signed (d .place) (d .len) in
@@ -109,15 +110,15 @@ parts-same same law material signs short signed c d =
     cc
 
 pub has-same-signs : {E : Type 0} (same : E → E → Bool) → Lawful same → (material : List E) (signs : List ℕ) → length material ≤ 2048 → signs ≡ signsOf same material material → (cues : List Cue) (given : Cue) →
-    hasSame eqb signs cues given ≡ hasSame same material cues given
+    listed (partsOf signs cues) (partOf signs given) ≡ hasSame same material cues given
 has-same-signs same law material signs short signed [] given = refl
 has-same-signs same law material signs short signed (c ∷ cues) given =
     let h = parts-same same law material signs short signed c given in
     let t = has-same-signs same law material signs short signed cues given in
     cc
 
-same-lists-equal : (xs ys : List ℕ) → (sameLists eqb xs ys ≡ true → xs ≡ ys) × (xs ≡ ys → sameLists eqb xs ys ≡ true)
-same-lists-equal xs ys = compares-decides (sameLists eqb) (search needs) xs ys
+same-lists-equal : (xs ys : List ℕ) → (equal xs ys ≡ true → xs ≡ ys) × (xs ≡ ys → equal xs ys ≡ true)
+same-lists-equal xs ys = compares-decides equal (search needs) xs ys
 
 pub cues-end : {E : Type 0} (same : E → E → Bool) → Lawful same → (h : Held E) → length (h .material) ≤ 2048 → Signed same h → CuesEnd same h
 cues-end same law h short signed c text =

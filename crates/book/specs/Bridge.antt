@@ -5,15 +5,12 @@ use mathlib.Core.List.{List, _++_}
 use mathlib.Core.Path.{_≡_}
 use lib.Dec.{eqb}
 use lib.ListN.{length, getD}
+use Rattle.matching.specs.Match.{Ends}
 use Rattle.events.specs.Sameness.{sameLists}
 use Rattle.book.specs.Signs.{signOf, signsOf}
 use Rattle.book.specs.Cues.{partOf}
 use Rattle.book.specs.Held.{Held}
 use Rattle.book.specs.declared.cue.Cue.{Cue}
-
--- A list ends a text (textbook: is a suffix of it).
-abbrev pub Ends : List ℕ → List ℕ → Type 0
-Ends c t = (u : List ℕ) × (u ++ c ≡ t)
 
 -- The text is some list followed by a list that is the same as the given one, event by event.
 abbrev pub EndsSame : {E : Type 0} → (E → E → Bool) → List E → List E → Type 0

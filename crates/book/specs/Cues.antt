@@ -1,6 +1,6 @@
 -- Cues (textbook: patterns) as parts of the material, and what a draft answers to an added one.
 use Prim.Native.Nat.{ℕ, _+_, _≤_, _<_}
-use mathlib.Core.Bool.{Bool, true, false, cond, not, _&&_, _||_}
+use mathlib.Core.Bool.{Bool, false, cond, _||_}
 use mathlib.Core.List.{List, [], _∷_, map}
 use lib.Dec.{eqb, ltb}
 use lib.ListN.{length, take, drop, getD}
@@ -36,11 +36,6 @@ total (c ∷ cues) = c .len + total cues
 abbrev pub hasSame : {X : Type 0} → (X → X → Bool) → List X → List Cue → Cue → Bool
 hasSame same xs [] given = false
 hasSame same xs (c ∷ cues) given = sameLists same (partOf xs c) (partOf xs given) || hasSame same xs cues given
-
--- No two cues are the same, event by event.
-abbrev pub noTwoSame : {X : Type 0} → (X → X → Bool) → List X → List Cue → Bool
-noTwoSame same xs [] = true
-noTwoSame same xs (c ∷ cues) = not (hasSame same xs cues c) && noTwoSame same xs cues
 
 -- A cue of 1 to 32 events inside the material.
 abbrev pub Within : ℕ → Cue → Type 0

@@ -3,13 +3,12 @@ use Prim.Native.Nat.{ℕ}
 use mathlib.Core.Bool.{Bool}
 use mathlib.Core.List.{List, [], _∷_, _++_}
 use mathlib.Core.Path.{_≡_}
-use lib.Dec.{eqb}
 use lib.ListN.{length, take}
 use Rattle.std.specs.Of.Vec.{vec-items}
 use Rattle.std.specs.declared.option.Option.{Option}
-use Rattle.std.specs.declared.option.Option.the-variants.{Some, None}
 use Rattle.events.specs.declared.Refusal.{Refusal}
-use Rattle.book.specs.Cues.{addRefusal, cueAt, hasSame, partsOf}
+use Rattle.matching.specs.Match.{listed}
+use Rattle.book.specs.Cues.{addRefusal, cueAt, hasSame, part, partsOf}
 use Rattle.book.specs.Signs.{signsOf}
 use Rattle.book.specs.declared.cue.Cue.{Cue}
 use Rattle.book.specs.declared.draft.Book.{Book}
@@ -27,6 +26,10 @@ draftHeld d = record { material = vec-items (d .material); signs = vec-items (d 
 abbrev pub bookHeld : {E : Type 0} → Book E → Held E
 bookHeld b = record { material = vec-items (b .material); signs = vec-items (b .signs); cues = vec-items (b .cues) }
 
+-- The cues of a book as lists of signs: what all matching is about.
+abbrev pub cueSigns : {E : Type 0} → Held E → List (List ℕ)
+cueSigns h = partsOf (h .signs) (h .cues)
+
 -- A draft begun on a list of events: the first 2,048 are its material, and it has no cue.
 abbrev pub begun : {E : Type 0} → (E → E → Bool) → List E → Held E
 begun same events = record { material = take 2048 events; signs = signsOf same (take 2048 events) (take 2048 events); cues = [] }
@@ -42,16 +45,8 @@ addRefused same h place len = addRefusal (length (h .material)) (h .cues) (hasSa
 
 -- The same, where a same cue is told by equal signs.
 abbrev pub addRefusedBySigns : {E : Type 0} → Held E → ℕ → ℕ → Option Refusal
-addRefusedBySigns h place len = addRefusal (length (h .material)) (h .cues) (hasSame eqb (h .signs) (h .cues) (cueAt place len)) place len
+addRefusedBySigns h place len = addRefusal (length (h .material)) (h .cues) (listed (cueSigns h) (part place len (h .signs))) place len
 
--- What is held after a call: as it was where it was refused, else with the cue behind the others.
+-- With one cue more, behind the others.
 abbrev pub withCue : {E : Type 0} → Held E → Cue → Held E
 withCue h c = record { material = h .material; signs = h .signs; cues = h .cues ++ c ∷ [] }
-
-abbrev pub unlessRefused : {X : Type 0} → Option Refusal → X → X → X
-unlessRefused None old new = new
-unlessRefused (Some refusal) old new = old
-
--- The cues of a book as lists of signs: what all matching is about.
-abbrev pub cueSigns : {E : Type 0} → Held E → List (List ℕ)
-cueSigns h = partsOf (h .signs) (h .cues)

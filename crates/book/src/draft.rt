@@ -3,9 +3,9 @@
 ghost use mathlib.Core.Bool.{true};
 ghost use mathlib.Core.Path.{_≡_};
 ghost use Prim.Native.Nat.{_≤_};
-ghost use lib.Dec.{eqb};
 ghost use Rattle.std.specs.Of.Vec.{vec-cap, vec-items, vec-len};
-ghost use Rattle.book.specs.Cues.{AllWithin, noTwoSame, total};
+ghost use Rattle.matching.specs.Match.{distinct};
+ghost use Rattle.book.specs.Cues.{AllWithin, partsOf, total};
 use crate::cue::Cue;
 
 mod calls;
@@ -22,7 +22,7 @@ pub struct Draft<E> {
     ghost few: { vec-len cues ≤ 128 },
     ghost within: { AllWithin (vec-len material) (vec-items cues) },
     ghost bounded: { total (vec-items cues) ≤ 1024 },
-    ghost apart: { noTwoSame eqb (vec-items signs) (vec-items cues) ≡ true },
+    ghost apart: { distinct (partsOf (vec-items signs) (vec-items cues)) ≡ true },
 }
 
 // A book is what a draft was when it was sealed: at most 128 cues of 1 to 32 events, 1,024 in all,
@@ -37,5 +37,5 @@ pub struct Book<E> {
     ghost few: { vec-len cues ≤ 128 },
     ghost within: { AllWithin (vec-len material) (vec-items cues) },
     ghost bounded: { total (vec-items cues) ≤ 1024 },
-    ghost apart: { noTwoSame eqb (vec-items signs) (vec-items cues) ≡ true },
+    ghost apart: { distinct (partsOf (vec-items signs) (vec-items cues)) ≡ true },
 }

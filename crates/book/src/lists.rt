@@ -2,12 +2,11 @@
 
 ghost use mathlib.Core.Path.{_≡_};
 ghost use Prim.Native.Nat.{_≤_};
-ghost use lib.Dec.{eqb};
 ghost use lib.ListN.{length};
 ghost use Rattle.std.specs.Of.Vec.{vec-items};
 ghost use Rattle.std.specs.Vec.{made};
-ghost use Rattle.events.specs.Sameness.{sameLists};
-ghost use Rattle.book.specs.Cues.{total, hasSame, partOf, Within, AllWithin};
+ghost use Rattle.matching.specs.Match.{listed, same as equal};
+ghost use Rattle.book.specs.Cues.{AllWithin, partOf, partsOf, total, Within};
 ghost use Rattle.book.specs.Signs.{signOf, signsOf};
 use crate::cue::Cue;
 use events::Event;
@@ -65,7 +64,7 @@ pub(crate) fn part_of(signs: &[u16], c: Cue) -> &[u16]
 fn same_part(signs: &[u16], c: Cue, given: Cue) -> bool
     requires first { ⌜ Within (length (now signs)) c ⌝ }
     requires second { ⌜ Within (length (now signs)) given ⌝ }
-    ensures { λ r. ⌜ r ≡ sameLists eqb (partOf (now (signs .entry)) c) (partOf (now (signs .entry)) given) ⌝ }
+    ensures { λ r. ⌜ r ≡ equal (partOf (now (signs .entry)) c) (partOf (now (signs .entry)) given) ⌝ }
 {
     part_of(signs, c) == part_of(signs, given)
 }
@@ -74,7 +73,7 @@ fn same_part(signs: &[u16], c: Cue, given: Cue) -> bool
 pub(crate) fn has_same(signs: &[u16], cues: &[Cue], given: Cue) -> bool
     requires within { ⌜ AllWithin (length (now signs)) (now cues) ⌝ }
     requires given { ⌜ Within (length (now signs)) given ⌝ }
-    ensures { λ r. ⌜ r ≡ hasSame eqb (now (signs .entry)) (now (cues .entry)) given ⌝ }
+    ensures { λ r. ⌜ r ≡ listed (partsOf (now (signs .entry)) (now (cues .entry))) (partOf (now (signs .entry)) given) ⌝ }
 {
     for c in cues {
         if same_part(signs, *c, given) {

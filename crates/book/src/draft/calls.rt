@@ -1,12 +1,14 @@
 // The calls on a draft and on a book.
 
+ghost use mathlib.Core.List.{[]};
 ghost use mathlib.Core.Path.{_≡_};
 ghost use lib.ListN.{length};
 ghost use Rattle.std.specs.Of.Vec.{vec-items};
-ghost use Rattle.std.specs.Vec.{made, refused};
+ghost use Rattle.std.specs.Results.{Cases};
+ghost use Rattle.std.specs.Vec.{made};
 ghost use Rattle.book.specs.Bridge.{CuesEnd, SignTells};
 ghost use Rattle.book.specs.Cues.{answer, cueAt, total};
-ghost use Rattle.book.specs.Held.{addRefused, addRefusedBySigns, begun, bookHeld, draftHeld, Signed, unlessRefused, withCue};
+ghost use Rattle.book.specs.Held.{addRefused, addRefusedBySigns, begun, bookHeld, draftHeld, Signed, withCue};
 ghost use Rattle.book.specs.Signs.{signOf};
 use crate::cue::Cue;
 use crate::draft::Book;
@@ -51,8 +53,7 @@ impl<E: Event> Draft<E> {
     pub fn add(&mut self, place: usize, len: usize) -> Result<usize, Refusal>
         ensures value { λ r. ⌜ r ≡ answer (addRefusedBySigns (draftHeld (now (self .entry))) place len) (length (draftHeld (now (self .entry)) .cues)) ⌝ }
         ensures same { λ r. ⌜ (Signed (E·Event .same) (draftHeld (now (self .entry))) → r ≡ answer (addRefused (E·Event .same) (draftHeld (now (self .entry))) place len) (length (draftHeld (now (self .entry)) .cues))) ⌝ }
-        ensures after { λ _. ⌜ draftHeld (now (self .exit)) ≡ unlessRefused (addRefusedBySigns (draftHeld (now (self .entry))) place len) (draftHeld (now (self .entry))) (withCue (draftHeld (now (self .entry))) (cueAt place len)) ⌝ }
-        ensures refused { λ r. ⌜ refused r (λ _. now (self .exit) ≡ now (self .entry)) ⌝ }
+        ensures cues { λ r. ⌜ Cases r (λ _. draftHeld (now (self .exit)) ≡ withCue (draftHeld (now (self .entry))) (cueAt place len)) (λ _. now (self .exit) ≡ now (self .entry)) ⌝ }
     {
         let number = self.cues.len();
         match self.refusal(place, len) {
@@ -81,11 +82,8 @@ impl<E: Event> Draft<E> {
         if self.cues.len() == CUES || total_of(self.cues.as_slice()) + len > BOOK_EVENTS {
             return Some(Refusal::BookFull);
         }
-        if has_same(
-            self.signs.as_slice(),
-            self.cues.as_slice(),
-            Cue { place, len },
-        ) {
+        let cue = Cue { place, len };
+        if has_same(self.signs.as_slice(), self.cues.as_slice(), cue) {
             return Some(Refusal::SameCue);
         }
         None
@@ -110,6 +108,17 @@ impl<E: Event> Draft<E> {
 }
 
 impl<E: Event> Book<E> {
+    // The book with no cue and no material.
+    pub fn empty(heap: Global) -> Book<E>
+        ensures { λ r. ⌜ bookHeld r ≡ begun (E·Event .same) [] ⌝ }
+    {
+        Book {
+            material: Vec::new(heap),
+            signs: Vec::new(heap),
+            cues: Vec::new(heap),
+        }
+    }
+
     // The sign of an event: the lowest place in the material with a same event, else 2,048.
     pub fn sign(&self, event: &E) -> u16
         ensures value { λ r. ⌜ r ≡ signOf (E·Event .same) (bookHeld (now (self .entry)) .material) (now (event .entry)) ⌝ }

@@ -2,16 +2,17 @@ use Prim.Native.Nat.{ℕ, _≤_}
 use mathlib.Core.Path.{_≡_, refl, sym, ap, subst, _∙_}
 use native.Mathlib.Omega.{arith}
 use borrow.Author.Needs.{needs}
-use lib.Dec.{eqb}
 use lib.ListN.{length}
 use Rattle.events.specs.declared.Refusal.{Refusal}
 use Rattle.std.specs.Of.Vec.{vec-len, vec-items}
 use Rattle.std.specs.declared.result.Result.{Result}
 use Rattle.std.specs.declared.result.Result.the-variants.{Ok}
-use Rattle.book.specs.Cues.{addRefusal, answer, cueAt, hasSame, noTwoSame, total, AllWithin}
-use Rattle.book.specs.Held.{addRefused, addRefusedBySigns, draftHeld, Held, Signed, unlessRefused, withCue}
+use Rattle.std.proofs.shelf.Lists.{map-push}
+use Rattle.matching.specs.Match.{listed, distinct}
+use Rattle.book.specs.Cues.{addRefusal, answer, cueAt, partOf, partsOf, total, AllWithin}
+use Rattle.book.specs.Held.{addRefused, addRefusedBySigns, cueSigns, draftHeld, Signed}
 use Rattle.book.specs.declared.draft.Draft.{Draft}
-use Rattle.book.proofs.Adding.{granted, within-push, total-push, apart-push}
+use Rattle.book.proofs.Adding.{granted, within-push, total-push, distinct-push}
 use Rattle.book.proofs.Tells.{has-same-signs}
 use Rattle.book.proofs.draft.Draft.add.Given.{Over}
 use Rattle.book.proofs.draft.Draft.add.Needs as need
@@ -21,7 +22,7 @@ ghost-self g c =
     let d = c .args .self .now in
     let new = cueAt (c .args .place) (c .args .len) in
     let items = c .push-reserved .ensures .items in
-    let ok = granted (length (vec-items (d .material))) (vec-items (d .cues)) (hasSame eqb (vec-items (d .signs)) (vec-items (d .cues)) new) (c .args .place) (c .args .len) (sym (c .in-None .ensures tt)) in (
+    let ok = granted (length (vec-items (d .material))) (vec-items (d .cues)) (listed (cueSigns (draftHeld d)) (partOf (vec-items (d .signs)) new)) (c .args .place) (c .args .len) (sym (c .in-None .ensures tt)) in (
       d .short,
       (
         d .signed,
@@ -34,7 +35,7 @@ ghost-self g c =
               (
                 subst (λ xs. total xs ≤ 1024) (sym items) (omega (arith, total-push (vec-items (d .cues)) new, ok .bounded)),
                 (
-                  ap (noTwoSame eqb (vec-items (d .signs))) items ∙ apart-push (vec-items (d .signs)) (vec-items (d .cues)) new (d .apart) (ok .apart),
+                  ap (λ xs. distinct (partsOf (vec-items (d .signs)) xs)) items ∙ (ap distinct (map-push (partOf (vec-items (d .signs))) (vec-items (d .cues)) new) ∙ distinct-push (cueSigns (draftHeld d)) (partOf (vec-items (d .signs)) new) (d .apart) (ok .apart)),
                   tt,
                 ),
               ),
@@ -60,8 +61,7 @@ returns-in-Some g c =
     record {
       value = value;
       same = same-answer g d (c .args .place) (c .args .len) value;
-      after = ap (λ o. unlessRefused o (draftHeld d) (withCue (draftHeld d) (cueAt (c .args .place) (c .args .len)))) why;
-      refused = refl;
+      cues = refl;
     }
 
 pub returns-in-None : need.returns-in-None
@@ -73,6 +73,5 @@ returns-in-None g c =
     record {
       value = value;
       same = same-answer g d (c .args .place) (c .args .len) value;
-      after = ap (λ xs. record { material = h .material; signs = h .signs; cues = xs }) (c .push-reserved .ensures .items) ∙ ap (λ o. unlessRefused o h (withCue h (cueAt (c .args .place) (c .args .len)))) why;
-      refused = tt;
+      cues = ap (λ xs. record { material = h .material; signs = h .signs; cues = xs }) (c .push-reserved .ensures .items);
     }

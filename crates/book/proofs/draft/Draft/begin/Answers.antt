@@ -1,11 +1,11 @@
 use mathlib.Core.Path.{_≡_, refl, sym, ap, subst, _∙_}
 use native.Mathlib.Omega.{arith}
 use borrow.Author.Needs.{needs}
-use lib.Dec.{eqb}
+use Rattle.matching.specs.Match.{distinct}
 use Prim.Native.Nat.{_≤_}
 use Rattle.std.specs.Of.Vec.{vec-len, vec-items}
 use Rattle.std.proofs.shelf.Lists.{length-map, length-take}
-use Rattle.book.specs.Cues.{noTwoSame, total, AllWithin}
+use Rattle.book.specs.Cues.{partsOf, total, AllWithin}
 use Rattle.book.proofs.draft.Draft.begin.Needs as need
 
 pub ghost-result : need.ghost-result
@@ -24,7 +24,7 @@ ghost-result g c =
               (
                 subst (λ xs. total xs ≤ 1024) (sym (none .0)) (omega arith),
                 (
-                  ap (noTwoSame eqb (vec-items (c .in-Continue-signs .signs))) (none .0),
+                  ap (λ xs. distinct (partsOf (vec-items (c .in-Continue-signs .signs)) xs)) (none .0),
                   tt,
                 ),
               ),

@@ -1,0 +1,5 @@
+pub mod Numbers
+pub mod Splits
+pub mod Readings
+pub mod Writing
+pub mod Placing

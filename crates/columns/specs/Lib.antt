@@ -1,0 +1,5 @@
+pub mod Kinds
+pub mod AsRuns
+pub mod Written
+pub mod Fields
+pub mod Lines

@@ -1,0 +1,5 @@
+pub mod Match
+pub mod Laws
+pub mod Follow
+pub mod Calls
+pub mod Examples
