@@ -141,3 +141,9 @@ cues-end same law h short signed c text =
           let s = signs-same same (h .material) own v told in
           (take (length w) text, v, take-append-drop (length w) text, sym s ∙ same-lists-equal (f own) (f v) .1 (sym p ∙ y)),
     )
+
+-- A sign is at most 2,048.
+pub signs-small : {E : Type 0} (same : E → E → Bool) (material : List E) → length material ≤ 2048 → (es : List E) (k : ℕ) → getD (signsOf same material es) k 0 ≤ 2048
+signs-small same material short [] k = omega arith
+signs-small same material short (e ∷ es) zero = grind arith
+signs-small same material short (e ∷ es) (suc k) = signs-small same material short es k

@@ -2,7 +2,8 @@
 
 ghost use mathlib.Core.Bool.{true};
 ghost use mathlib.Core.Path.{_≡_};
-ghost use Prim.Native.Nat.{_≤_};
+ghost use Prim.Native.Nat.{ℕ, _≤_};
+ghost use lib.ListN.{getD};
 ghost use Rattle.std.specs.Of.Vec.{vec-cap, vec-items, vec-len};
 ghost use Rattle.matching.specs.Match.{distinct};
 ghost use Rattle.book.specs.Cues.{AllWithin, partsOf, total};
@@ -18,6 +19,7 @@ pub struct Draft<E> {
     cues: Vec<Cue>,
     ghost short: { vec-len material ≤ 2048 },
     ghost signed: { vec-len signs ≡ vec-len material },
+    ghost small: { (k : ℕ) → getD (vec-items signs) k 0 ≤ 2048 },
     ghost room: { 128 ≤ vec-cap cues },
     ghost few: { vec-len cues ≤ 128 },
     ghost within: { AllWithin (vec-len material) (vec-items cues) },
@@ -34,6 +36,7 @@ pub struct Book<E> {
     cues: Vec<Cue>,
     ghost short: { vec-len material ≤ 2048 },
     ghost signed: { vec-len signs ≡ vec-len material },
+    ghost small: { (k : ℕ) → getD (vec-items signs) k 0 ≤ 2048 },
     ghost few: { vec-len cues ≤ 128 },
     ghost within: { AllWithin (vec-len material) (vec-items cues) },
     ghost bounded: { total (vec-items cues) ≤ 1024 },
