@@ -1,16 +1,17 @@
 -- What a book keeps, with one cue more at the end.
-use Prim.Native.Nat.{ℕ, zero, suc, _+_, _<_, _≤_}
+use Prim.Native.Nat.{ℕ, zero, suc, min, _+_, _<_, _≤_}
 use mathlib.Core.Bool.{Bool, true, false, cond, not, _||_, _&&_}
 use mathlib.Core.List.{List, [], _∷_, _++_}
 use mathlib.Core.Logic.{_⊎_, ⊎-elim}
 use mathlib.Core.Path.{_≡_, refl, sym, ap, subst, _∙_}
 use native.Mathlib.Omega.{arith}
-use lib.ListN.{length, getD}
-use Rattle.std.proofs.shelf.Lists.{getD-append-left, getD-at, length-push}
+use lib.ListN.{length, getD, drop}
+use Rattle.std.proofs.shelf.Lists.{getD-append-left, getD-at, length-push, length-take, length-drop}
 use Rattle.std.proofs.shelf.Tests.{cases-lt}
 use Rattle.std.specs.declared.option.Option.the-variants.{None}
+use Rattle.matching.specs.Calls.{total as totalSigns}
 use Rattle.matching.specs.Match.{listed, distinct, same as equal}
-use Rattle.book.specs.Cues.{addRefusal, cueAt, total, Within, AllWithin}
+use Rattle.book.specs.Cues.{addRefusal, cueAt, partOf, partsOf, total, Within, AllWithin}
 use Rattle.book.specs.declared.cue.Cue.{Cue}
 
 pub total-push : (cues : List Cue) (c : Cue) → total (cues ++ c ∷ []) ≡ total cues + c .len
@@ -48,3 +49,14 @@ pub record Granted (material : ℕ) (cues : List Cue) (there : Bool) (place len 
 pub granted : (material : ℕ) (cues : List Cue) (there : Bool) (place len : ℕ) → addRefusal material cues there place len ≡ None → Granted material cues there place len
 granted material cues there place len h =
     record { within = (grind arith, grind arith, grind arith); few = grind arith; bounded = grind arith; apart = grind arith }
+
+-- A cue inside the material has as many signs as events, and so have all cues together.
+pub length-part : (signs : List ℕ) (c : Cue) → c .place + c .len ≤ length signs → length (partOf signs c) ≡ c .len
+length-part signs c h = length-take (c .len) (drop (c .place) signs) ∙ (ap (min (c .len)) (length-drop (c .place) signs) ∙ omega arith)
+
+pub total-signs : (signs : List ℕ) (cues : List Cue) → AllWithin (length signs) cues → totalSigns (partsOf signs cues) ≡ total cues
+total-signs signs [] all = refl
+total-signs signs (c ∷ cues) all =
+    let one = length-part signs c (all zero c (omega arith) .2) in
+    let rest = total-signs signs cues (λ k d h. all (suc k) d (omega arith)) in
+    omega arith

@@ -44,6 +44,12 @@ pub enum Refusal {
     BookFull,
     // add: the book has a same cue
     SameCue,
+    // load: the cues have more signs in all than the engine holds
+    OverCapacity,
+    // resume: there is no such cue
+    NoSuchCue,
+    // resume: the length is longer than the cue
+    BehindCue,
     // a line is not readable; column 0 for a wrong length, else the first column of the leftmost bad field
     Unreadable { column: u8 },
     // a cue line's number is neither the last cue's nor one more
@@ -63,6 +69,9 @@ impl Refusal {
             Refusal::BehindMaterial => 3,
             Refusal::BookFull => 4,
             Refusal::SameCue => 5,
+            Refusal::OverCapacity => 6,
+            Refusal::NoSuchCue => 8,
+            Refusal::BehindCue => 9,
             Refusal::Unreadable { column: _ } => 13,
             Refusal::Misnumbered => 14,
             Refusal::LongInput => 15,

@@ -2,18 +2,20 @@
 
 ghost use mathlib.Core.List.{[]};
 ghost use mathlib.Core.Path.{_≡_};
-ghost use lib.ListN.{length};
+ghost use lib.ListN.{getD, length};
 ghost use Rattle.std.specs.Of.Vec.{vec-items};
 ghost use Rattle.std.specs.Results.{Cases};
 ghost use Rattle.std.specs.Vec.{made};
+ghost use Rattle.matching.specs.Calls.{total as totalSigns};
 ghost use Rattle.book.specs.Bridge.{CuesEnd, SignTells};
 ghost use Rattle.book.specs.Cues.{answer, cueAt, total};
-ghost use Rattle.book.specs.Held.{addRefused, addRefusedBySigns, begun, bookHeld, draftHeld, Signed, withCue};
+ghost use Rattle.book.specs.Held.{addRefused, addRefusedBySigns, begun, bookHeld, cueSigns, draftHeld, Signed, withCue};
 ghost use Rattle.book.specs.Signs.{signOf};
 use crate::cue::Cue;
 use crate::draft::Book;
 use crate::draft::Draft;
 use crate::lists::has_same;
+use crate::lists::part_of;
 use crate::lists::sign_in;
 use crate::lists::signs_of;
 use crate::lists::total_of;
@@ -148,9 +150,21 @@ impl<E: Event> Book<E> {
         self.cues.as_slice()
     }
 
-    // The events of all cues together.
+    // The signs of a cue; none where there is no such cue.
+    pub fn cue_signs(&self, number: usize) -> &[u16]
+        ensures { λ r. ⌜ now r ≡ getD (cueSigns (bookHeld (now (self .entry)))) number [] ⌝ }
+    {
+        if number < self.cues.len() {
+            part_of(self.signs.as_slice(), self.cues[number])
+        } else {
+            self.signs.as_slice().split_at(0).0
+        }
+    }
+
+    // The events of all cues together, and so their signs.
     pub fn total(&self) -> usize
-        ensures { λ r. ⌜ r ≡ total (bookHeld (now (self .entry)) .cues) ⌝ }
+        ensures events { λ r. ⌜ r ≡ total (bookHeld (now (self .entry)) .cues) ⌝ }
+        ensures signs { λ r. ⌜ r ≡ totalSigns (cueSigns (bookHeld (now (self .entry)))) ⌝ }
     {
         total_of(self.cues.as_slice())
     }

@@ -22,12 +22,31 @@ ghost-self g c =
     let d = c .args .self .now in
     let new = cueAt (c .args .place) (c .args .len) in
     let items = c .push-reserved .ensures .items in
-    let ok = granted (length (vec-items (d .material))) (vec-items (d .cues)) (listed (cueSigns (draftHeld d)) (partOf (vec-items (d .signs)) new)) (c .args .place) (c .args .len) (sym (c .in-None .ensures tt)) in
-    (d .short, (d .signed, (d .small, (search needs, (search needs,
-    (subst (AllWithin (vec-len (d .material))) (sym items) (within-push _ _ _ (d .within) (rw (d .material .ok .0) (ok .within))),
-    (subst (λ xs. total xs ≤ 1024) (sym items) (omega (arith, total-push (vec-items (d .cues)) new, ok .bounded)),
-    (ap (λ xs. distinct (partsOf (vec-items (d .signs)) xs)) items ∙ (ap distinct (map-push (partOf (vec-items (d .signs))) (vec-items (d .cues)) new) ∙ distinct-push (cueSigns (draftHeld d)) (partOf (vec-items (d .signs)) new) (d .apart) (ok .apart)),
-    tt))))))))
+    let ok = granted (length (vec-items (d .material))) (vec-items (d .cues)) (listed (cueSigns (draftHeld d)) (partOf (vec-items (d .signs)) new)) (c .args .place) (c .args .len) (sym (c .in-None .ensures tt)) in (
+      d .short,
+      (
+        d .signed,
+        (
+          d .small,
+          (
+            search needs,
+            (
+              search needs,
+              (
+                subst (AllWithin (vec-len (d .material))) (sym items) (within-push _ _ _ (d .within) (rw (d .material .ok .0) (ok .within))),
+                (
+                  subst (λ xs. total xs ≤ 1024) (sym items) (omega (arith, total-push (vec-items (d .cues)) new, ok .bounded)),
+                  (
+                    ap (λ xs. distinct (partsOf (vec-items (d .signs)) xs)) items ∙ (ap distinct (map-push (partOf (vec-items (d .signs))) (vec-items (d .cues)) new) ∙ distinct-push (cueSigns (draftHeld d)) (partOf (vec-items (d .signs)) new) (d .apart) (ok .apart)),
+                    tt,
+                  ),
+                ),
+              ),
+            ),
+          ),
+        ),
+      ),
+    )
 
 -- The answer by events is the answer by signs.
 same-answer : (g : Over) (d : Draft (g .E .Denot)) (place len : ℕ) {r : Result ℕ Refusal} →
