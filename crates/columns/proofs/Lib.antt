@@ -3,3 +3,4 @@ pub mod Splits
 pub mod Readings
 pub mod Writing
 pub mod Placing
+pub mod Texts

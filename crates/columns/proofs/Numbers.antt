@@ -1,6 +1,6 @@
 -- Number fields: steps of the loops that read one, and that reading undoes writing.
 use Prim.Native.Nat.{ℕ, zero, suc, _+_, _-_, _*_, _^_, _<_, _≤_}
-use mathlib.Core.Bool.{Bool, true, false, cond, not, _&&_}
+use mathlib.Core.Bool.{true, false, cond, _&&_}
 use mathlib.Core.List.{List, [], _∷_, _++_}
 use mathlib.Core.Logic.{⊎-elim}
 use mathlib.Core.Path.{_≡_, refl, sym, ap, subst, _∙_}
@@ -9,7 +9,7 @@ use borrow.Author.Needs.{needs}
 use lib.Dec.{eqb, leb, ltb}
 use lib.ListN.{length, drop, getD, replicate}
 use Rattle.std.proofs.shelf.Decimals.{decimal-value, value-decimal, digits-decimal, first-decimal, decimal-digit, decimal-some}
-use Rattle.std.proofs.shelf.Lists.{at-drop-more, at-drop-all}
+use Rattle.std.proofs.shelf.Lists.{at-drop-more}
 use Rattle.std.proofs.shelf.Numerals.{Numerals, numerals-by-fold}
 use Rattle.std.proofs.shelf.Tests.{cond-both, cond-true, le-leb, cases-lt}
 use Rattle.std.specs.Options.{Cases}
@@ -29,7 +29,7 @@ pub value-grows : (n : ℕ) (ds : List ℕ) → n ≤ valueFrom n ds
 value-grows n [] = omega arith
 value-grows n (b ∷ bs) = omega (arith, value-grows (n * 10 + (b - 48)) bs)
 
-own : Numerals (λ ds. allDigits ds ≡ true) (valueFrom 0)
+pub own : Numerals (λ ds. allDigits ds ≡ true) (valueFrom 0)
 own = numerals-by-fold _ (search needs) valueFrom (search needs)
 
 unblanked-le : (f : List ℕ) → length (unblanked f) ≤ length f
@@ -96,7 +96,7 @@ pub value-more : (v : ℕ) (ds : List ℕ) (i : ℕ) → i < length ds → value
 value-more v ds i h = at-drop-more (valueFrom v) ds i 0 h
 
 -- a field that is read as n is what is written of n
-read-is-written : (limit : ℕ) (f : List ℕ) (n : ℕ) → limit ≤ 2 ^ 64 → n < limit → numberBelow limit f ≡ Some n → numberField (length f) n ≡ f
+pub read-is-written : (limit : ℕ) (f : List ℕ) (n : ℕ) → limit ≤ 2 ^ 64 → n < limit → numberBelow limit f ≡ Some n → numberField (length f) n ≡ f
 unfolding numberBelow numberField
 read-is-written limit f n small h e =
     let good : (numeral (unblanked f) ≡ true) × (valueFrom 0 (unblanked f) ≡ n) = grind arith in
@@ -106,7 +106,7 @@ read-is-written limit f n small h e =
     subst P (sym d) (cond-true _ _ _ (le-leb _ _ (unblanked-le f)) ∙ unblanked-is f)
 
 -- and the other way round
-written-is-read : (limit : ℕ) (f : List ℕ) (n : ℕ) → limit ≤ 2 ^ 64 → n < limit → length (decimal n) ≤ length f → numberField (length f) n ≡ f → numberBelow limit f ≡ Some n
+pub written-is-read : (limit : ℕ) (f : List ℕ) (n : ℕ) → limit ≤ 2 ^ 64 → n < limit → length (decimal n) ≤ length f → numberField (length f) n ≡ f → numberBelow limit f ≡ Some n
 unfolding numberBelow numberField
 written-is-read limit f n small h le e =
     let k = length f - length (decimal n) in

@@ -1,8 +1,8 @@
 -- What a line that is read has: its number and its event.
 use Prim.Native.Nat.{ℕ, _<_, _≤_}
-use mathlib.Core.Bool.{Bool, true, false, cond}
+use mathlib.Core.Bool.{true}
 use mathlib.Core.List.{List}
-use mathlib.Core.Path.{_≡_, refl, sym, ap, subst, _∙_}
+use mathlib.Core.Path.{_≡_, refl, sym, subst}
 use native.Mathlib.Omega.{arith}
 use lib.Dec.{eqb}
 use Rattle.std.proofs.shelf.Tests.{cond-both, eqb-true}
@@ -18,7 +18,7 @@ use Rattle.columns.specs.declared.line.Section.{Section}
 use Rattle.columns.specs.declared.line.Section.the-variants.{Cues, Log as LogSection}
 use Rattle.columns.specs.declared.line.Line.{Line}
 use Rattle.columns.specs.Fields.{numberBelow}
-use Rattle.columns.specs.Lines.{Fields, cue, log, parting, columns, kindField, cueNumbers, seconds, carts, badCueColumn, badLogColumn, ended, readAs, readCue, readLog, readLine, fieldsOf, seen, eventFrom, eventOf, cueNumberOf, Whole}
+use Rattle.columns.specs.Lines.{Fields, columns, blankField, kindField, cueNumbers, seconds, carts, badCueColumn, badLogColumn, ended, readAs, readCue, readLog, readLine, fieldsOf, seen, eventFrom, Whole}
 
 pub read-bad : (column bad : ℕ) (fields : Fields) → column ≡ bad → 0 < column → _≡_ {A = Result Fields Refusal} (Err (Unreadable column)) (readAs bad fields)
 read-bad column bad fields e h = rw (← e) (grind arith)
@@ -31,10 +31,10 @@ event-from-some None kind c hs hk hc = grind arith
 event-from-some (Some s) kind None hs hk hc = grind arith
 event-from-some (Some s) kind (Some c) hs hk hc = rw hk refl
 
-good-cue : (l : List ℕ) → badCueColumn l ≡ 0 → (isSome (numberBelow cueNumbers (columns 1 4 l)) ≡ true) × (kindField (columns 6 6 l) ≡ true) × (isSome (numberBelow carts (columns 8 13 l)) ≡ true)
+pub good-cue : (l : List ℕ) → badCueColumn l ≡ 0 → (isSome (numberBelow cueNumbers (columns 1 4 l)) ≡ true) × (blankField (columns 5 5 l) ≡ true) × (kindField (columns 6 6 l) ≡ true) × (blankField (columns 7 7 l) ≡ true) × (isSome (numberBelow carts (columns 8 13 l)) ≡ true)
 good-cue l e = grind arith
 
-good-log : (l : List ℕ) → badLogColumn l ≡ 0 → (isSome (numberBelow seconds (columns 1 5 l)) ≡ true) × (kindField (columns 7 7 l) ≡ true) × (isSome (numberBelow carts (columns 9 14 l)) ≡ true)
+pub good-log : (l : List ℕ) → badLogColumn l ≡ 0 → (isSome (numberBelow seconds (columns 1 5 l)) ≡ true) × (blankField (columns 6 6 l) ≡ true) × (kindField (columns 7 7 l) ≡ true) × (blankField (columns 8 8 l) ≡ true) × (isSome (numberBelow carts (columns 9 14 l)) ≡ true)
 good-log l e = grind arith
 
 -- an answer that is no refusal has all that its kind of line says
@@ -45,14 +45,14 @@ cue-whole : (l : List ℕ) → AllThere (readCue l)
 unfolding readCue
 cue-whole l =
     cond-both (eqb (badCueColumn l) 0) _ _ AllThere
-    (λ e. let good = good-cue l (eqb-true _ _ e) in (good .0, event-from-some (Some 0) (columns 6 6 l) (numberBelow carts (columns 8 13 l)) refl (good .1) (good .2)))
+    (λ e. let good = good-cue l (eqb-true _ _ e) in (good .0, event-from-some (Some 0) (columns 6 6 l) (numberBelow carts (columns 8 13 l)) refl (good .2) (good .4)))
     (λ e. tt)
 
 log-whole : (l : List ℕ) → AllThere (readLog l)
 unfolding readLog
 log-whole l =
     cond-both (eqb (badLogColumn l) 0) _ _ AllThere
-    (λ e. let good = good-log l (eqb-true _ _ e) in event-from-some (numberBelow seconds (columns 1 5 l)) (columns 7 7 l) (numberBelow carts (columns 9 14 l)) (good .0) (good .1) (good .2))
+    (λ e. let good = good-log l (eqb-true _ _ e) in event-from-some (numberBelow seconds (columns 1 5 l)) (columns 7 7 l) (numberBelow carts (columns 9 14 l)) (good .0) (good .2) (good .4))
     (λ e. tt)
 
 -- a line that is read has all that its kind of line says

@@ -1,13 +1,12 @@
 -- Writing a number from its last digit: steps of the loop, and its two ends.
-use Prim.Native.Nat.{ℕ, _+_, _-_, _*_, _/_, _%_, _^_, _<_, _≤_}
-use mathlib.Core.Bool.{Bool, true, false, cond}
+use Prim.Native.Nat.{ℕ, _+_, _-_, _/_, _%_, _^_, _<_, _≤_}
 use mathlib.Core.List.{List, [], _∷_, _++_}
-use mathlib.Core.Path.{_≡_, refl, sym, ap, subst, _∙_}
+use mathlib.Core.Path.{_≡_, sym, ap, _∙_}
 use native.Mathlib.Omega.{arith}
 use lib.Dec.{leb}
 use lib.ListN.{length, drop, set, replicate}
 use Rattle.std.proofs.shelf.Decimals.{decimal-step, decimal-digit, decimal-some}
-use Rattle.std.proofs.shelf.Lists.{append-nil, append-assoc, drop-all, drop-set, length-append, length-drop, length-set, length-replicate}
+use Rattle.std.proofs.shelf.Lists.{append-nil, append-assoc, drop-all, drop-set, length-append, length-drop, length-replicate}
 use Rattle.std.proofs.shelf.Tests.{cond-both, cond-true, cond-false, le-leb, lt-leb}
 use Rattle.std.specs.Written.{decimal}
 use Rattle.columns.specs.Written.{numberField}

@@ -1,6 +1,6 @@
 -- The as-run event by its three values, and its sameness.
 use Prim.Native.Nat.{ℕ}
-use mathlib.Core.Bool.{Bool, cond, _&&_}
+use mathlib.Core.Bool.{Bool, _&&_}
 use lib.Dec.{eqb}
 use Rattle.columns.specs.declared.asrun.AsRun.{AsRun}
 use Rattle.columns.specs.Kinds.{letterOf}

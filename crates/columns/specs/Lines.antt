@@ -1,5 +1,5 @@
 -- Lines of the input, each a list of bytes with its byte 10 at the end, and what they are read as.
-use Prim.Native.Nat.{ℕ, _+_, _-_}
+use Prim.Native.Nat.{ℕ, _+_, _-_, _<_}
 use mathlib.Core.Bool.{Bool, true, cond, not, _&&_}
 use mathlib.Core.List.{List, [], _∷_}
 use mathlib.Core.Path.{_≡_}
@@ -18,6 +18,7 @@ use Rattle.columns.specs.declared.line.Line.{Line}
 use Rattle.columns.specs.declared.line.Line.the-variants.{Cue, Log, Parting}
 use Rattle.columns.specs.Fields.{numberBelow}
 use Rattle.columns.specs.Kinds.{kindLetter}
+use Rattle.columns.specs.Written.{cueLine, logLine}
 
 -- The first line of an input, with its byte 10 if it has one.
 abbrev pub firstLine : List ℕ → List ℕ
@@ -34,7 +35,7 @@ abbrev pub linesOf : List ℕ → List (List ℕ)
 linesOf [] = []
 linesOf (b ∷ bs) = cond (eqb b 10) ((b ∷ []) ∷ linesOf bs) (inFront b (linesOf bs))
 
--- A line by its fields, each a list of bytes: what a `Line`, which borrows them, says.
+-- A line by its fields, each a list of bytes; a `Line` borrows them.
 pub data Fields : Type 0 where
   cue : List ℕ → List ℕ → List ℕ → Fields
   log : List ℕ → List ℕ → List ℕ → Fields
@@ -51,7 +52,7 @@ blankField f = eqb (length f) 1 && eqb (getD f 0 0) 32
 abbrev pub kindField : List ℕ → Bool
 kindField f = eqb (length f) 1 && kindLetter (getD f 0 0)
 
--- The greatest values of a line's numbers, and one more.
+-- The limits of a line's numbers: each number is below its own.
 abbrev pub seconds : ℕ
 seconds = 86400
 
@@ -100,7 +101,7 @@ unfoldable pub readLine : Section → List ℕ → Result Fields Refusal
 readLine Cues l = cond (ended 0 l) (Ok parting) (cond (ended 13 l) (readCue l) (Err (Unreadable 0)))
 readLine LogSection l = cond (ended 14 l) (readLog l) (Err (Unreadable 0))
 
--- What a `Line` says, and a reader's answer.
+-- The fields of a `Line`, and of a reader's answer.
 abbrev pub fieldsOf : Line → Fields
 fieldsOf (Cue number kind cart) = cue (number .now) (kind .now) (cart .now)
 fieldsOf (Log second kind cart) = log (second .now) (kind .now) (cart .now)
@@ -133,3 +134,47 @@ abbrev pub Whole : Fields → Type 0
 Whole (cue number kind cart) = (isSome (cueNumberOf (cue number kind cart)) ≡ true) × (isSome (eventOf (cue number kind cart)) ≡ true)
 Whole (log second kind cart) = isSome (eventOf (log second kind cart)) ≡ true
 Whole parting = Unit {0}
+
+-- The numbers that a cue line says: its cue number, kind letter and cart.
+abbrev pub cueSays : Fields → Option (ℕ × ℕ × ℕ)
+cueSays (cue number kind cart) = eventFrom (numberBelow cueNumbers number) kind (numberBelow carts cart)
+cueSays (log second kind cart) = None
+cueSays parting = None
+
+-- The numbers that a log line says: its second, kind letter and cart.
+abbrev pub logSays : Fields → Option (ℕ × ℕ × ℕ)
+logSays (cue number kind cart) = None
+logSays (log second kind cart) = eventFrom (numberBelow seconds second) kind (numberBelow carts cart)
+logSays parting = None
+
+-- What a reader's answer says: nothing where it is a refusal.
+abbrev pub said : (Fields → Option (ℕ × ℕ × ℕ)) → Result Fields Refusal → Option (ℕ × ℕ × ℕ)
+said says (Ok fields) = says fields
+said says (Err refusal) = None
+
+-- A line is the text of a cue line with these numbers, each below its limit.
+abbrev pub CueText : ℕ → ℕ → ℕ → List ℕ → Type 0
+CueText number letter cart l = (number < cueNumbers) × (kindLetter letter ≡ true) × (cart < carts) × (l ≡ cueLine number letter cart)
+
+abbrev pub LogText : ℕ → ℕ → ℕ → List ℕ → Type 0
+LogText second letter cart l = (second < seconds) × (kindLetter letter ≡ true) × (cart < carts) × (l ≡ logLine second letter cart)
+
+-- A line is read as a cue line exactly when it is the text of that cue line, and so for the others.
+abbrev pub CueWritten : List ℕ → Type 0
+CueWritten l =
+    (number letter cart : ℕ) →
+    (said cueSays (readLine Cues l) ≡ Some (number, letter, cart) → CueText number letter cart l) ×
+    (CueText number letter cart l → said cueSays (readLine Cues l) ≡ Some (number, letter, cart))
+
+abbrev pub LogWritten : List ℕ → Type 0
+LogWritten l =
+    (second letter cart : ℕ) →
+    (said logSays (readLine LogSection l) ≡ Some (second, letter, cart) → LogText second letter cart l) ×
+    (LogText second letter cart l → said logSays (readLine LogSection l) ≡ Some (second, letter, cart))
+
+abbrev pub PartingWritten : List ℕ → Type 0
+PartingWritten l = (readLine Cues l ≡ Ok parting → l ≡ 10 ∷ []) × (l ≡ 10 ∷ [] → readLine Cues l ≡ Ok parting)
+
+abbrev pub LineWritten : Section → List ℕ → Type 0
+LineWritten Cues l = CueWritten l × PartingWritten l
+LineWritten LogSection l = LogWritten l

@@ -4,18 +4,16 @@ use crate::asrun::AsRun;
 use crate::field::read_number;
 use crate::kind::read_kind;
 use events::Refusal;
-ghost use mathlib.Core.Bool.{cond, _&&_};
 ghost use mathlib.Core.List.{_∷_};
 ghost use mathlib.Core.Path.{_≡_};
-ghost use Prim.Native.Nat.{_<_, _≤_, _+_};
-ghost use lib.Dec.{eqb};
-ghost use lib.ListN.{length, take, drop};
+ghost use Prim.Native.Nat.{_<_};
+ghost use lib.ListN.{length, drop};
 ghost use Rattle.std.specs.Options.{isSome, mapped};
 ghost use Rattle.std.specs.declared.option.Option.the-variants.{Some};
 ghost use Rattle.std.specs.Vec.{made};
 ghost use Rattle.columns.specs.AsRuns.{valuesOf};
 ghost use Rattle.columns.specs.Fields.{numberBelow};
-ghost use Rattle.columns.specs.Lines.{firstLine, linesOf, ended, seen, readLine, readCue, readLog, badCueColumn, badLogColumn, carts, eventFrom, eventOf, cueNumberOf, blankField, kindField, Whole, fieldsOf};
+ghost use Rattle.columns.specs.Lines.{firstLine, linesOf, ended, seen, readLine, readCue, readLog, badCueColumn, badLogColumn, carts, eventFrom, eventOf, cueNumberOf, blankField, kindField, Whole, LineWritten, fieldsOf};
 
 // One more than the greatest number that a field may hold.
 const CUE_NUMBERS: u32 = 10_000;
@@ -131,6 +129,7 @@ fn line_length(input: &[u8]) -> usize
 pub fn read_line<'a>(section: Section, line: &'a [u8]) -> Result<Line<'a>, Refusal>
     ensures value { λ r. ⌜ seen r ≡ readLine section (now (line .entry)) ⌝ }
     ensures events { λ r. ⌜ made r (λ l. Whole (fieldsOf l)) ⌝ }
+    ensures written { λ r. ⌜ LineWritten section (now (line .entry)) ⌝ }
 {
     match section {
         Section::Cues => {

@@ -1,5 +1,4 @@
 use native.Mathlib.Omega.{arith}
-use borrow.Author.Needs.{needs}
 use Rattle.std.proofs.shelf.Lists.{drop-all}
 use Rattle.columns.proofs.Numbers.{unblanked-blank, unblanked-other}
 use Rattle.columns.proofs.field.leading_blanks.Needs as need
