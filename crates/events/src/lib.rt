@@ -46,10 +46,18 @@ pub enum Refusal {
     SameCue,
     // load: the cues have more signs in all than the engine holds
     OverCapacity,
+    // load: some cue has more than 32 cues as endings
+    ManyEndings,
     // resume: there is no such cue
     NoSuchCue,
     // resume: the length is longer than the cue
     BehindCue,
+    // take: the text has 9,999,999 signs
+    FullText,
+    // offer: the end is below the last end
+    EndBelowLast,
+    // offer: the length is 0, or over the end and 1
+    BadLength,
     // a line is not readable; column 0 for a wrong length, else the first column of the leftmost bad field
     Unreadable { column: u8 },
     // a cue line's number is neither the last cue's nor one more
@@ -70,8 +78,12 @@ impl Refusal {
             Refusal::BookFull => 4,
             Refusal::SameCue => 5,
             Refusal::OverCapacity => 6,
+            Refusal::ManyEndings => 7,
             Refusal::NoSuchCue => 8,
             Refusal::BehindCue => 9,
+            Refusal::FullText => 10,
+            Refusal::EndBelowLast => 11,
+            Refusal::BadLength => 12,
             Refusal::Unreadable { column: _ } => 13,
             Refusal::Misnumbered => 14,
             Refusal::LongInput => 15,
