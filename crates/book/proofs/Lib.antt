@@ -1,3 +1,3 @@
 mod Reading
-mod Tells
-mod Adding
+pub mod Tells
+pub mod Adding

@@ -1,11 +1,13 @@
 -- One turn of a loop over a list, for what the specifications say by recursion on it.
 use Prim.Native.Nat.{ℕ, _+_, suc, _<_, _≤_}
-use mathlib.Core.Bool.{Bool, true, false, cond, _||_}
+use mathlib.Core.Bool.{Bool, false, cond, _&&_, _||_}
 use mathlib.Core.List.{List, [], _∷_}
 use mathlib.Core.Path.{_≡_, sym, ap, _∙_}
+use lib.Dec.{eqb}
 use lib.ListN.{length, getD, drop}
-use Rattle.std.proofs.shelf.Lists.{at-drop-more, at-drop-all}
+use Rattle.std.proofs.shelf.Lists.{at-drop-more, at-drop-all, drop-all, drop-more}
 use Rattle.matching.specs.Match.{listed, same as equal}
+use Rattle.book.specs.Held.{lookFrom}
 use Rattle.book.specs.Signs.{firstPlace}
 use Rattle.book.specs.Cues.{total, partOf, partsOf}
 use Rattle.book.specs.declared.cue.Cue.{Cue}
@@ -30,3 +32,13 @@ listed-more signs cues given i d h = at-drop-more (λ xs. listed (partsOf signs 
 
 pub listed-all : (signs : List ℕ) (cues : List Cue) (given : List ℕ) (i : ℕ) → length cues ≤ i → listed (partsOf signs (drop i cues)) given ≡ false
 listed-all signs cues given i h = at-drop-all (λ xs. listed (partsOf signs xs) given) cues i h
+
+pub look-more : {E : Type 0} (same : E → E → Bool) (ms : List E) (signs : List ℕ) (e : E) (i : ℕ) (m : E) → i < length ms → i < length signs → m ≡ getD ms i m →
+    lookFrom same i (drop i ms) (drop i signs) e ≡ cond (eqb (getD signs i 0) i && same m e) i (lookFrom same (i + 1) (drop (i + 1) ms) (drop (i + 1) signs) e)
+look-more same ms signs e i m h k is =
+    ap (λ xs. lookFrom same i xs (drop i signs) e) (drop-more ms i m h) ∙
+    (ap (λ xs. lookFrom same i (getD ms i m ∷ drop (i + 1) ms) xs e) (drop-more signs i 0 k) ∙
+    ap (λ x. cond (eqb (getD signs i 0) i && same x e) i (lookFrom same (i + 1) (drop (i + 1) ms) (drop (i + 1) signs) e)) (sym is))
+
+pub look-all : {E : Type 0} (same : E → E → Bool) (ms : List E) (signs : List ℕ) (e : E) (i : ℕ) → length ms ≤ i → lookFrom same i (drop i ms) (drop i signs) e ≡ 2048
+look-all same ms signs e i h = ap (λ xs. lookFrom same i xs (drop i signs) e) (drop-all i ms h)

@@ -1,24 +1,24 @@
 -- From the three laws alone: equal signs are sameness, and so for lists.
 use Prim.Native.Nat.{ℕ, zero, suc, _+_, _<_, _≤_}
 use mathlib.Core.Bool.{Bool, true, false, cond, _||_, _&&_}
-use mathlib.Core.List.{List, [], _∷_, _++_, map}
+use mathlib.Core.List.{List, [], _∷_, _++_, append-assoc, append-nil, map}
 use mathlib.Core.Logic.{⊎-elim}
 use mathlib.Core.Path.{_≡_, refl, sym, ap, _∙_}
 use native.Mathlib.Omega.{arith}
 use borrow.Author.Needs.{needs}
 use lib.Dec.{eqb, ltb}
-use lib.ListN.{length, getD, take, drop}
+use lib.ListN.{length, length-append, getD, take, drop}
 use lib.Seq.{drop-length}
 use Rattle.std.proofs.shelf.Equals.{compares-decides}
-use Rattle.std.proofs.shelf.Lists.{map-append, take-map, drop-map, drop-append-le, take-append-drop}
+use Rattle.std.proofs.shelf.Lists.{map-append, take-map, drop-map, drop-append-le, getD-at, take-append-drop}
 use Rattle.std.proofs.shelf.Elements.{all-take, all-drop, all-from-getD}
-use Rattle.std.proofs.shelf.Tests.{cases-bool, ltb-true, ltb-false, lt-ltb, le-ltb, eqb-true, eqb-false, eq-eqb, ne-eqb, cases-lt, both-ways, cond-both}
+use Rattle.std.proofs.shelf.Tests.{cases-bool, ltb-true, ltb-false, lt-ltb, le-ltb, eqb-true, eqb-false, eq-eqb, ne-eqb, cases-lt, both-ways, and-right, cases-eq, cond-true, cond-false}
 use Rattle.std.specs.shelf.Lists.{All}
 use Rattle.matching.specs.Match.{listed, same as equal}
 use Rattle.events.specs.Sameness.{Lawful, sameLists}
 use Rattle.book.specs.Signs.{firstPlace, signOf, signsOf}
 use Rattle.book.specs.Cues.{part, partOf, partsOf, hasSame}
-use Rattle.book.specs.Held.{Held, Signed}
+use Rattle.book.specs.Held.{Held, Signed, lookFrom, lookup, lookups}
 use Rattle.book.specs.Bridge.{SignTells, CuesEnd}
 use Rattle.book.specs.declared.cue.Cue.{Cue}
 
@@ -147,3 +147,43 @@ pub signs-small : {E : Type 0} (same : E → E → Bool) (material : List E) →
 signs-small same material short [] k = omega arith
 signs-small same material short (e ∷ es) zero = grind arith
 signs-small same material short (e ∷ es) (suc k) = signs-small same material short es k
+
+-- Looking up from a place on, where the signs are right: the first place from there on that is its own
+-- sign and has a same event is the first place of the event, unless that lies before.
+look-sign : {E : Type 0} (same : E → E → Bool) → Lawful same → (material : List E) (e : E) (front ms : List E) (i : ℕ) → front ++ ms ≡ material → length front ≡ i → i ≤ firstPlace same material e →
+    lookFrom same i ms (signsOf same material ms) e ≡ signOf same material e
+look-sign same law material e front [] i split long before =
+    let all : length material ≡ i = sym (ap length split) ∙ (ap length (append-nil front) ∙ long) in
+    sym (cond-false (ltb (firstPlace same material e) (length material)) (firstPlace same material e) 2048 (le-ltb (firstPlace same material e) (length material) (omega arith)))
+look-sign same law material e front (m ∷ ms) i split long before =
+    let size : length material ≡ length front + length (m ∷ ms) = sym (ap length split) ∙ length-append front (m ∷ ms) in
+    let inside : i < length material = omega arith in
+    let here : getD material i m ≡ m = ap (λ xs. getD xs i m) (sym split) ∙ getD-at front m ms m i long in
+    ⊎-elim
+    (λ (s : same m e ≡ true).
+    let at : firstPlace same material e ≤ i = first-is-least same material e m i inside (ap (λ x. same x e) here ∙ s) in
+    let own : firstPlace same material e ≡ i = omega arith in
+    let its : firstPlace same material m ≡ i = firstPlace-same same law material m e s ∙ own in
+    let its-sign : signOf same material m ≡ i = sign-found same material m (omega arith) ∙ its in
+    let test : (eqb (signOf same material m) i && same m e) ≡ true = ap (λ t. t && same m e) (eq-eqb (signOf same material m) i its-sign) ∙ s in
+    cond-true (eqb (signOf same material m) i && same m e) i _ test ∙ sym (sign-found same material e (omega arith) ∙ own))
+    (λ (s : same m e ≡ false).
+    let test : (eqb (signOf same material m) i && same m e) ≡ false = and-right (eqb (signOf same material m) i) (same m e) s in
+    let later : i + 1 ≤ firstPlace same material e =
+    ⊎-elim
+    (λ (q : firstPlace same material e ≡ i).
+    let t = same-at-first same material e m (omega arith) in
+    let u : same m e ≡ true = ap (λ x. same x e) (sym (ap (λ k. getD material k m) q ∙ here)) ∙ t in
+    absurd (both-ways (same m e) s u))
+    (λ (q : firstPlace same material e ≡ i → ⊥). omega arith)
+    (cases-eq (firstPlace same material e) i) in
+    cond-false (eqb (signOf same material m) i && same m e) i _ test ∙
+    look-sign same law material e (front ++ m ∷ []) ms (i + 1) (append-assoc front (m ∷ []) ms ∙ split) (length-append front (m ∷ []) ∙ omega arith) later)
+    (cases-bool (same m e))
+
+pub lookup-sign : {E : Type 0} (same : E → E → Bool) → Lawful same → (h : Held E) → Signed same h → (e : E) → lookup same h e ≡ signOf same (h .material) e
+lookup-sign same law h signed e = ap (λ signs. lookFrom same 0 (h .material) signs e) signed ∙ look-sign same law (h .material) e [] (h .material) 0 refl refl (omega arith)
+
+pub lookups-signs : {E : Type 0} (same : E → E → Bool) → Lawful same → (h : Held E) → Signed same h → (events : List E) → lookups same h events ≡ signsOf same (h .material) events
+lookups-signs same law h signed [] = refl
+lookups-signs same law h signed (e ∷ events) = let one = lookup-sign same law h signed e in let rest = lookups-signs same law h signed events in cc

@@ -1,8 +1,9 @@
 -- What a draft or a book holds, as lists, and how the calls on a draft change it.
-use Prim.Native.Nat.{ℕ}
-use mathlib.Core.Bool.{Bool}
-use mathlib.Core.List.{List, [], _∷_, _++_}
+use Prim.Native.Nat.{ℕ, _+_}
+use mathlib.Core.Bool.{Bool, cond, _&&_}
+use mathlib.Core.List.{List, [], _∷_, _++_, map}
 use mathlib.Core.Path.{_≡_}
+use lib.Dec.{eqb}
 use lib.ListN.{length, take}
 use Rattle.std.specs.Of.Vec.{vec-items}
 use Rattle.std.specs.declared.option.Option.{Option}
@@ -38,6 +39,20 @@ begun same events = record { material = take 2048 events; signs = signsOf same (
 -- so does the book that it is sealed into.
 abbrev pub Signed : {E : Type 0} → (E → E → Bool) → Held E → Type 0
 Signed same h = h .signs ≡ signsOf same (h .material) (h .material)
+
+-- The sign of an event as it is looked up: the material is read from a place on, and only at places that
+-- are their own sign, so that no event is compared with two that are the same. Where the signs held are
+-- those of the material, this is the sign of the event.
+abbrev pub lookFrom : {E : Type 0} → (E → E → Bool) → ℕ → List E → List ℕ → E → ℕ
+lookFrom same i [] signs e = 2048
+lookFrom same i (m ∷ ms) [] e = 2048
+lookFrom same i (m ∷ ms) (s ∷ signs) e = cond (eqb s i && same m e) i (lookFrom same (i + 1) ms signs e)
+
+abbrev pub lookup : {E : Type 0} → (E → E → Bool) → Held E → E → ℕ
+lookup same h e = lookFrom same 0 (h .material) (h .signs) e
+
+abbrev pub lookups : {E : Type 0} → (E → E → Bool) → Held E → List E → List ℕ
+lookups same h events = map (lookup same h) events
 
 -- Why a cue is refused, where a same cue is told by sameness event by event.
 abbrev pub addRefused : {E : Type 0} → (E → E → Bool) → Held E → ℕ → ℕ → Option Refusal

@@ -2,8 +2,10 @@
 
 mod cue;
 mod draft;
+mod entry;
 mod lists;
 
 pub use cue::Cue;
 pub use draft::Book;
 pub use draft::Draft;
+pub use entry::Entry;

@@ -1,12 +1,15 @@
 // Reading the material and the cues as lists.
 
+ghost use mathlib.Core.Bool.{_&&_};
 ghost use mathlib.Core.Path.{_≡_};
 ghost use Prim.Native.Nat.{_≤_};
+ghost use lib.Dec.{eqb};
 ghost use lib.ListN.{length};
 ghost use Rattle.std.specs.Of.Vec.{vec-items};
 ghost use Rattle.std.specs.Vec.{made};
 ghost use Rattle.matching.specs.Match.{listed, same as equal};
 ghost use Rattle.book.specs.Cues.{AllWithin, partOf, partsOf, total, Within};
+ghost use Rattle.book.specs.Held.{lookFrom};
 ghost use Rattle.book.specs.Signs.{signOf, signsOf};
 use crate::cue::Cue;
 use events::Event;
@@ -20,6 +23,27 @@ pub(crate) fn sign_in<E: Event>(material: &[E], event: &E) -> u16
 {
     for (i, m) in material.iter().enumerate() {
         if m.same(event) {
+            return i as u16;
+        }
+    }
+    2048
+}
+
+// Whether a place of the material is its own sign and has an event that is the same.
+fn is_first_same<E: Event>(sign: u16, place: usize, at: &E, event: &E) -> bool
+    ensures { λ r. ⌜ r ≡ (eqb sign place && E·Event .same (now (at .entry)) (now (event .entry))) ⌝ }
+{
+    sign as usize == place && at.same(event)
+}
+
+// The sign of an event, looked up at the places that are their own sign.
+pub(crate) fn look_up<E: Event>(material: &[E], signs: &[u16], event: &E) -> u16
+    requires short { ⌜ length (now material) ≤ 2048 ⌝ }
+    requires signed { ⌜ length (now signs) ≡ length (now material) ⌝ }
+    ensures { λ r. ⌜ r ≡ lookFrom (E·Event .same) 0 (now (material .entry)) (now (signs .entry)) (now (event .entry)) ⌝ }
+{
+    for (i, m) in material.iter().enumerate() {
+        if is_first_same(signs[i], i, m, event) {
             return i as u16;
         }
     }

@@ -9,14 +9,14 @@ ghost use Rattle.std.specs.Vec.{made};
 ghost use Rattle.matching.specs.Calls.{total as totalSigns};
 ghost use Rattle.book.specs.Bridge.{CuesEnd, SignTells};
 ghost use Rattle.book.specs.Cues.{answer, cueAt, total};
-ghost use Rattle.book.specs.Held.{addRefused, addRefusedBySigns, begun, bookHeld, cueSigns, draftHeld, Signed, withCue};
+ghost use Rattle.book.specs.Held.{addRefused, addRefusedBySigns, begun, bookHeld, cueSigns, draftHeld, lookup, Signed, withCue};
 ghost use Rattle.book.specs.Signs.{signOf};
 use crate::cue::Cue;
 use crate::draft::Book;
 use crate::draft::Draft;
 use crate::lists::has_same;
+use crate::lists::look_up;
 use crate::lists::part_of;
-use crate::lists::sign_in;
 use crate::lists::signs_of;
 use crate::lists::total_of;
 use events::Event;
@@ -121,12 +121,14 @@ impl<E: Event> Book<E> {
         }
     }
 
-    // The sign of an event: the lowest place in the material with a same event, else 2,048.
+    // The sign of an event: the lowest place in the material with a same event, else 2,048. Only the
+    // first of the events that are the same is compared.
     pub fn sign(&self, event: &E) -> u16
-        ensures value { λ r. ⌜ r ≡ signOf (E·Event .same) (bookHeld (now (self .entry)) .material) (now (event .entry)) ⌝ }
+        ensures value { λ r. ⌜ r ≡ lookup (E·Event .same) (bookHeld (now (self .entry))) (now (event .entry)) ⌝ }
+        ensures lowest { λ r. ⌜ (Signed (E·Event .same) (bookHeld (now (self .entry))) → r ≡ signOf (E·Event .same) (bookHeld (now (self .entry)) .material) (now (event .entry))) ⌝ }
         ensures tells { λ _. ⌜ SignTells (E·Event .same) (bookHeld (now (self .entry)) .material) (now (event .entry)) ⌝ }
     {
-        sign_in(self.material.as_slice(), event)
+        look_up(self.material.as_slice(), self.signs.as_slice(), event)
     }
 
     // The material.
@@ -154,10 +156,11 @@ impl<E: Event> Book<E> {
     pub fn cue_signs(&self, number: usize) -> &[u16]
         ensures { λ r. ⌜ now r ≡ getD (cueSigns (bookHeld (now (self .entry)))) number [] ⌝ }
     {
+        let signs = self.signs.as_slice();
         if number < self.cues.len() {
-            part_of(self.signs.as_slice(), self.cues[number])
+            part_of(signs, self.cues[number])
         } else {
-            self.signs.as_slice().split_at(0).0
+            signs.split_at(0).0
         }
     }
 

@@ -13,7 +13,7 @@ returns-then-number-len g c =
     let b = c .args .self .now in
     let m = getD-map (partOf (vec-items (b .signs))) (vec-items (b .cues)) (c .args .number) (c .index .result .now) [] (omega (arith, b .cues .ok .0, c .len .ensures)) in
     let i = c .index .ensures in
-    let v = c .as-slice .ensures .value in
+    let v = c .as-slice-signs .ensures .value in
     cc
 
 pub returns-else-number-len : need.returns-else-number-len
