@@ -1,16 +1,8 @@
 // The theory of exact matching of several patterns: definitions and laws over lists of numbers, in specs/. Each function here has
 // one law as its contract, so that the crate passes only if the law is proved.
-ghost use Rattle.matching.specs.Examples.{Examples};
 ghost use Rattle.matching.specs.Laws.{Beginning-read, Fronts-begin, Live-right, Live-only, Live-enough, Sightings-live, Sightings-read, Sightings-fall, Sightings-once, Sightings-only, Sightings-few, Standings-tell, Standing-back, Standing-one, Link-right, Walk-right, Tries-walk, Tries-few, Sightings-walk, Ends-read, Wait-right};
 ghost use Rattle.matching.specs.Follow.{Follow-live, Entries-read, Follow-fits, Ending-read};
 ghost use Rattle.matching.specs.Calls.{Calls-kept, Held-right, Follow-steps, Calls-cheap, Spent-step, Calls-tell, Calls-few, Resume-back, Rooms-alike, Endings-few};
-
-// the definitions give what the worked examples say
-pub fn examples_hold() -> u8
-    ensures { λ _. ⌜ Examples ⌝ }
-{
-    0
-}
 
 // a list is a beginning exactly when it is empty or a front of some cue
 pub fn beginning_read() -> u8
