@@ -1,0 +1,4 @@
+pub mod Words
+pub mod Laid
+pub mod Below
+pub mod Laws
