@@ -1,0 +1,6 @@
+// A watch (textbook: a matcher over a stream) holds an engine and the length of its text.
+#[derive(Drop)]
+pub struct Watch<L> {
+    pub(crate) engine: L,
+    pub(crate) len: u32,
+}
