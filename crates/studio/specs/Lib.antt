@@ -1,0 +1,3 @@
+pub mod Lane
+pub mod Marks
+pub mod Show
