@@ -30,8 +30,14 @@ mod tests {
         check(matches!(draft.add(0, 32), Ok(0)))?;
         check(matches!(draft.add(0, 33), Err(Refusal::LongCue)))?;
         check(matches!(draft.add(35, 2), Err(Refusal::BehindMaterial)))?;
-        check(matches!(draft.add(18446744073709551615, 18446744073709551615), Err(Refusal::LongCue)))?;
-        check(matches!(draft.add(18446744073709551615, 2), Err(Refusal::BehindMaterial)))?;
+        check(matches!(
+            draft.add(18446744073709551615, 18446744073709551615),
+            Err(Refusal::LongCue)
+        ))?;
+        check(matches!(
+            draft.add(18446744073709551615, 2),
+            Err(Refusal::BehindMaterial)
+        ))?;
         check(matches!(draft.add(0, 32), Err(Refusal::SameCue)))?;
         check(matches!(draft.add(35, 1), Ok(1)))?;
         let book = draft.seal();
@@ -58,7 +64,13 @@ mod tests {
         check(event.second() == 86399)?;
         check(event.cart() == 999999)?;
         check(matches!(event.kind(), Kind::News))?;
-        check(matches!(read_line(Section::Log, b"86400 N 999999\n"), Err(Refusal::Unreadable { column: 1 })))?;
-        check_eq(entry_line(3, 0, 2).as_slice(), b"      3    0  2\n".as_slice())
+        check(matches!(
+            read_line(Section::Log, b"86400 N 999999\n"),
+            Err(Refusal::Unreadable { column: 1 })
+        ))?;
+        check_eq(
+            entry_line(3, 0, 2).as_slice(),
+            b"      3    0  2\n".as_slice(),
+        )
     }
 }
