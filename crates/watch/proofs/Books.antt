@@ -15,7 +15,7 @@ use Rattle.book.specs.Held.{bookHeld, cueSigns}
 use Rattle.book.specs.declared.cue.Cue.{Cue}
 use Rattle.book.specs.declared.draft.Book.{Book}
 use Rattle.matching.specs.Match.{Signs, filled, same}
-use Rattle.watch.specs.After.{Bookish}
+use Rattle.watch.specs.After.{BookCues}
 
 not-empty : (c : List ℕ) → 1 ≤ length c → not (same c []) ≡ true
 not-empty [] h = absurd (omega arith)
@@ -38,8 +38,8 @@ parts-signs signs fit (c ∷ cues) = (all-take _ (c .len) _ (all-drop _ (c .plac
 pub book-within : {E : Type 0} (b : Book E) → AllWithin (length (vec-items (b .signs))) (vec-items (b .cues))
 book-within b = subst (λ k. AllWithin k (vec-items (b .cues))) (sym (b .signed) ∙ b .signs .ok .0) (b .within)
 
-pub book-bookish : {E : Type 0} (b : Book E) → Bookish (cueSigns (bookHeld b))
-book-bookish b =
+pub book-cues-of : {E : Type 0} (b : Book E) → BookCues (cueSigns (bookHeld b))
+book-cues-of b =
     record {
       some-signs = parts-filled (vec-items (b .signs)) (vec-items (b .cues)) (book-within b);
       apart = b .apart;

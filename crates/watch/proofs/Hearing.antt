@@ -17,7 +17,7 @@ use Rattle.matching.specs.Follow.{entries, followed}
 use Rattle.matching.specs.Match.{Among, Ends, Sighted, filled, sightings}
 use Rattle.matching.proofs.Follow.{entries-read}
 use Rattle.matching.proofs.Sightings.{sightings-read}
-use Rattle.watch.specs.Following.{Events-right, Heard, Loaded-events}
+use Rattle.watch.specs.Following.{InEvents, EndsEvents, Loaded-events}
 
 module _ {E : Type 0} (same : E → E → Bool) (law : Lawful same) (h : Held E) (short : length (h .material) ≤ 2048) (within : AllWithin (length (h .signs)) (h .cues)) (some : filled (cueSigns h) ≡ true) where
   cue-number : length (cueSigns h) ≡ length (h .cues)
@@ -30,7 +30,7 @@ module _ {E : Type 0} (same : E → E → Bool) (law : Lawful same) (h : Held E)
   cue-length n l = length-part (h .signs) (getD (h .cues) n (cueAt 0 0)) (within n (cueAt 0 0) l .2)
 
   -- A cue is sighted in signs exactly where it is heard in events.
-  heard-from : Signed same h → (events : List E) (n k : ℕ) → Sighted (cueSigns h) (signsOf same (h .material) events) n k → Heard same h n k events
+  heard-from : Signed same h → (events : List E) (n k : ℕ) → Sighted (cueSigns h) (signsOf same (h .material) events) n k → EndsEvents same h n k events
   heard-from signed events n k s =
       let l : n < length (h .cues) = omega (arith, s .0, cue-number) in
       let at = cue-signs n l in
@@ -41,7 +41,7 @@ module _ {E : Type 0} (same : E → E → Bool) (law : Lawful same) (h : Held E)
         last = cues-end same law h short signed (getD (h .cues) n (cueAt 0 0)) events .1 ends;
       }
 
-  sighted-from : Signed same h → (events : List E) (n k : ℕ) → Heard same h n k events → Sighted (cueSigns h) (signsOf same (h .material) events) n k
+  sighted-from : Signed same h → (events : List E) (n k : ℕ) → EndsEvents same h n k events → Sighted (cueSigns h) (signsOf same (h .material) events) n k
   sighted-from signed events n k q =
       let at = cue-signs n (q .number) in
       let ends = cues-end same law h short signed (getD (h .cues) n (cueAt 0 0)) events .0 (q .last) in
@@ -57,14 +57,14 @@ module _ {E : Type 0} (same : E → E → Bool) (law : Lawful same) (h : Held E)
       let long : length (a .text) ≡ length before = ap length text ∙ length-map before f in
       let full : filled (a .cues) ≡ true = ap filled cues ∙ some in
       record {
-        heard = λ p n k among.
+        only = λ p n k among.
             let r = entries-read (a .cues) (a .text) free ss p n k .0 among in
             let i = r .0 in
             let s = sightings-read (a .cues) (a .text ++ take (suc i) ss) full n k .0 (r .3) in
             let s′ = subst (λ cs. Sighted cs (a .text ++ take (suc i) ss) n k) cues s in
             let s″ = subst (λ t. Sighted (cueSigns h) t n k) (texts (suc i)) s′ in
             (i, omega (arith, r .1, long), r .2, heard-from signed (before ++ take (suc i) events) n k s″);
-        listed = λ p n k i place more q.
+        all = λ p n k i place more q.
             let s = sighted-from signed (before ++ take (suc i) events) n k q in
             let s′ = subst (λ t. Sighted (cueSigns h) t n k) (sym (texts (suc i))) s in
             let s″ = subst (λ cs. Sighted cs (a .text ++ take (suc i) ss) n k) (sym cues) s′ in

@@ -17,8 +17,8 @@ use Rattle.matching.proofs.Calls.{calls-few, calls-kept, held-right, calls-tell
 use Rattle.matching.proofs.Follow.{ending-at, entries-at, followed-at}
 use Rattle.matching.proofs.Live.{live-begins}
 use Rattle.matching.proofs.Sightings.{sightings-read, sightings-fall}
-use Rattle.watch.specs.After.{After, Always, Bookish, Cheap, Leads, Listed, Tells}
-use Rattle.watch.specs.Following.{endingNumber, entryOf, Followed-right}
+use Rattle.watch.specs.After.{After, Always, BookCues, WorkBound, Leads, Listed, Tells}
+use Rattle.watch.specs.Following.{endingNumber, entryOf, FollowAnswer}
 use Rattle.watch.specs.Refusals.{loadRefused}
 use Rattle.watch.specs.declared.following.Followed.{Followed}
 use Rattle.watch.proofs.Sofar.{Ended}
@@ -58,14 +58,14 @@ module _ {L : Type 0} (m : Ghosts L) where
   -- A new watch, with the empty book in its engine.
   pub begun : (w : Watch L) → m .cues (w .engine) ≡ [] → m .live (w .engine) ≡ [] → m .cost (w .engine) ≡ 0 → w .len ≡ 0 → After m [] w
   begun w none nothing free len =
-      record { holds = moved (calls-kept (m .room) .0) none nothing len free; bookish = record { some-signs = refl; apart = refl; signs = tt } }
+      record { holds = moved (calls-kept (m .room) .0) none nothing len free; book-cues = record { some-signs = refl; apart = refl; signs = tt } }
 
-  pub loaded : (v w : Watch L) (cs : List (List ℕ)) → Bookish cs → loadRefused (m .room) cs ≡ None → m .cues (w .engine) ≡ cs → m .live (w .engine) ≡ [] → m .cost (w .engine) ≡ 0 → w .len ≡ 0 → Leads m v (loads cs) w
+  pub loaded : (v w : Watch L) (cs : List (List ℕ)) → BookCues cs → loadRefused (m .room) cs ≡ None → m .cues (w .engine) ≡ cs → m .live (w .engine) ≡ [] → m .cost (w .engine) ≡ 0 → w .len ≡ 0 → Leads m v (loads cs) w
   loaded v w cs ok why same none free len calls h =
       let g = load-granted (m .room) cs why in
       record {
         holds = moved (keeps calls v h .load cs g) same none len free;
-        bookish = subst Bookish (sym (ap (λ b. cond b (anew cs) (account (m .room) calls) .cues) g)) ok;
+        book-cues = subst BookCues (sym (ap (λ b. cond b (anew cs) (account (m .room) calls) .cues) g)) ok;
       }
 
   pub not-loaded : (v w : Watch L) (cs : List (List ℕ)) (r : Refusal) → loadRefused (m .room) cs ≡ Some r → w .engine ≡ v .engine → w .len ≡ v .len → Leads m v (loads cs) w
@@ -73,7 +73,7 @@ module _ {L : Type 0} (m : Ghosts L) where
       let g = load-denied (m .room) cs r why in
       record {
         holds = moved (keeps calls v h .no-load cs g) (ap (m .cues) same) (ap (m .live) same) len (ap (m .cost) same);
-        bookish = subst Bookish (sym (ap (λ b. cond b (anew cs) (account (m .room) calls) .cues) g)) (h .bookish);
+        book-cues = subst BookCues (sym (ap (λ b. cond b (anew cs) (account (m .room) calls) .cues) g)) (h .book-cues);
       }
 
   -- A sign is taken, or refused and nothing changed.
@@ -82,28 +82,28 @@ module _ {L : Type 0} (m : Ghosts L) where
   taken v w s l same went cheap len calls h =
       record {
         holds = moved (keeps calls v h .step s (m .cost (w .engine)) l (omega (arith, cheap, ap length went))) same went len refl;
-        bookish = subst Bookish (sym (take-cues (m .room) (account (m .room) calls) s)) (h .bookish);
+        book-cues = subst BookCues (sym (take-cues (m .room) (account (m .room) calls) s)) (h .book-cues);
       }
 
   pub not-taken : (v : Watch L) (s : ℕ) → 9999999 ≤ v .len → Leads m v (takes s) v
-  not-taken v s l calls h = record { holds = keeps calls v h .no-step s l; bookish = subst Bookish (sym (take-cues (m .room) (account (m .room) calls) s)) (h .bookish) }
+  not-taken v s l calls h = record { holds = keeps calls v h .no-step s l; book-cues = subst BookCues (sym (take-cues (m .room) (account (m .room) calls) s)) (h .book-cues) }
 
   pub restarted : (v w : Watch L) → m .cues (w .engine) ≡ m .cues (v .engine) → m .live (w .engine) ≡ [] → m .cost (w .engine) ≡ 0 → w .len ≡ 0 → Leads m v restarts w
-  restarted v w same none free len calls h = record { holds = moved (keeps calls v h .restart) same none len free; bookish = h .bookish }
+  restarted v w same none free len calls h = record { holds = moved (keeps calls v h .restart) same none len free; book-cues = h .book-cues }
 
   pub resumed : (v w : Watch L) (s : ℕ × ℕ) → resumeRefusal (m .cues (v .engine)) s ≡ None → m .cues (w .engine) ≡ m .cues (v .engine) → m .live (w .engine) ≡ named (m .cues (v .engine)) s → m .cost (w .engine) ≡ 0 → w .len ≡ s .1 →
       Leads m v (resumes (s .0) (s .1)) w
   resumed v w s why same went free len calls h =
       record {
         holds = moved (keeps calls v h .resume (s .0) (s .1) (resume-granted (m .cues (v .engine)) s why)) same went len free;
-        bookish = subst Bookish (sym (resume-cues (m .room) (account (m .room) calls) (s .0) (s .1))) (h .bookish);
+        book-cues = subst BookCues (sym (resume-cues (m .room) (account (m .room) calls) (s .0) (s .1))) (h .book-cues);
       }
 
   pub not-resumed : (v w : Watch L) (s : ℕ × ℕ) (r : Refusal) → resumeRefusal (m .cues (v .engine)) s ≡ Some r → w .engine ≡ v .engine → w .len ≡ v .len → Leads m v (resumes (s .0) (s .1)) w
   not-resumed v w s r why same len calls h =
       record {
         holds = moved (keeps calls v h .no-resume (s .0) (s .1) (resume-denied (m .cues (v .engine)) s r why)) (ap (m .cues) same) (ap (m .live) same) len (ap (m .cost) same);
-        bookish = subst Bookish (sym (resume-cues (m .room) (account (m .room) calls) (s .0) (s .1))) (h .bookish);
+        book-cues = subst BookCues (sym (resume-cues (m .room) (account (m .room) calls) (s .0) (s .1))) (h .book-cues);
       }
 
   pub cues-right : (w : Watch L) → Always m w (λ a. m .cues (w .engine) ≡ a .cues)
@@ -119,17 +119,17 @@ module _ {L : Type 0} (m : Ghosts L) where
   pub listed-right : (w : Watch L) → Always m w Listed
   listed-right w calls h =
       let a = account (m .room) calls in
-      record { exactly = sightings-read (a .cues) (a .text) (h .bookish .some-signs); falling = sightings-fall (a .cues) (a .text) (h .bookish .apart) }
+      record { exactly = sightings-read (a .cues) (a .text) (h .book-cues .some-signs); falling = sightings-fall (a .cues) (a .text) (h .book-cues .apart) }
 
   pub tells-right : (w : Watch L) → Always m w (λ a. (room : ℕ) (calls : List Call) → Tells a (account room calls))
-  tells-right w calls h room other same = calls-tell (m .room) room calls other same (h .bookish .signs)
+  tells-right w calls h room other same = calls-tell (m .room) room calls other same (h .book-cues .signs)
 
   standing-length : (cues : List (List ℕ)) (b : List ℕ) → standing cues b .1 ≡ length b
   standing-length cues [] = refl
   standing-length cues (x ∷ b) = refl
 
-  pub cheap-right : (w : Watch L) → Always m w (Cheap (m .cost (w .engine)))
-  cheap-right w calls h =
+  pub work-right : (w : Watch L) → Always m w (WorkBound (m .cost (w .engine)))
+  work-right w calls h =
       let a = account (m .room) calls in
       let s = standing-length (a .cues) (live (a .cues) (a .text)) in
       omega (arith, h .holds .cheap, ap length (h .holds .same-live))
@@ -146,7 +146,7 @@ module _ {L : Type 0} (m : Ghosts L) where
   pub followed-right : (v w : Watch L) (signs : List ℕ) (old new : List Entry) (r : Followed) →
       (beginning (m .cues (v .engine)) (m .live (v .engine)) ≡ true → ((t : List ℕ) → length (sightings (m .cues (v .engine)) t) ≤ 32) →
       Ended (m .cues (v .engine)) (m .live (v .engine)) (v .len) (m .cost (v .engine)) signs old (r .taken) (r .written) (endingNumber (r .ending)) (m .cues (w .engine)) (m .live (w .engine)) (w .len) (m .cost (w .engine)) new) →
-      Always m v (λ a. Followed-right a signs old new r) × Leads m v (follows signs (length old)) w
+      Always m v (λ a. FollowAnswer a signs old new r) × Leads m v (follows signs (length old)) w
   followed-right v w signs old new r ended = (
     λ calls h.
         let a = account (m .room) calls in
@@ -168,6 +168,6 @@ module _ {L : Type 0} (m : Ghosts L) where
         let went : m .live (w .engine) ≡ live (m .cues (v .engine)) (m .live (v .engine) ++ take n signs) = e .went ∙ ap (λ k. live (m .cues (v .engine)) (m .live (v .engine) ++ take k signs)) (e .taken) in
         record {
           holds = moved (keeps calls v h .follow signs (length old) (m .cost (w .engine)) (omega (arith, e .cheap, e .taken, ap length went))) (e .same) went (e .long ∙ ap (λ k. v .len + k) (e .taken)) refl;
-          bookish = h .bookish;
+          book-cues = h .book-cues;
         },
   )

@@ -10,7 +10,7 @@ use Rattle.std.specs.declared.option.Option.the-variants.{Some, None}
 use Rattle.matching.specs.Calls.{Account, stands}
 use Rattle.matching.specs.Match.{live, shortest, standing, wait}
 use Rattle.matching.proofs.Endings.{wait-right}
-use Rattle.watch.specs.After.{Quiet}
+use Rattle.watch.specs.After.{NoneEarlier}
 
 pub shortest-more : (m : ℕ) (cues : List (List ℕ)) (i : ℕ) → i < length cues → shortest m (drop i cues) ≡ shortest (min m (length (getD cues i []))) (drop (i + 1) cues)
 shortest-more m cues i h = at-drop-more (shortest m) cues i [] h
@@ -30,7 +30,7 @@ standing-length : (cues : List (List ℕ)) (b : List ℕ) → standing cues b .1
 standing-length cues [] = refl
 standing-length cues (x ∷ b) = refl
 
-pub quiet-right : (a : Account) (cues : List (List ℕ)) (r : Option ℕ) → a .cues ≡ cues → r ≡ wait cues (stands a .1) → Quiet a r
-quiet-right a cues r same is w some =
+pub none-earlier-right : (a : Account) (cues : List (List ℕ)) (r : Option ℕ) → a .cues ≡ cues → r ≡ wait cues (stands a .1) → NoneEarlier a r
+none-earlier-right a cues r same is w some =
     wait-right (a .cues) (a .text) w
     (ap (wait (a .cues)) (sym (standing-length (a .cues) (live (a .cues) (a .text)))) ∙ (ap (λ cs. wait cs (stands a .1)) same ∙ (sym is ∙ some)))

@@ -13,7 +13,7 @@ use Rattle.matching.specs.Match.{Alike, Among, Sighted, Signs, distinct, filled
 use Rattle.watch.specs.declared.watch.Watch.{Watch}
 
 -- The cues are those of a book: none is empty, no two are equal, and all signs are 16-bit numbers.
-pub record Bookish (cues : List (List ℕ)) : Type 0 where
+pub record BookCues (cues : List (List ℕ)) : Type 0 where
   pub some-signs : filled cues ≡ true
   pub apart : distinct cues ≡ true
   pub signs : All Signs cues
@@ -22,7 +22,7 @@ pub record Bookish (cues : List (List ℕ)) : Type 0 where
 -- calls comes to. A new watch is after no call, and each call leads on from there.
 pub record After {L : Type 0} (m : Ghosts L) (calls : List Call) (w : Watch L) : Type 0 where
   pub holds : Holds (account (m .room) calls) (m .cues (w .engine)) (m .live (w .engine)) (w .len) (m .cost (w .engine))
-  pub bookish : Bookish (account (m .room) calls .cues)
+  pub book-cues : BookCues (account (m .room) calls .cues)
 
 -- Whatever calls led to v, these and one call more lead to w.
 abbrev pub Leads : {L : Type 0} → Ghosts L → Watch L → Call → Watch L → Type 0
@@ -47,14 +47,14 @@ Tells a b =
 
 -- The bound on the engine's work: the cost and the length of the standing together are at most twice
 -- the signs taken since the last granted load, restart or resume, and the length then resumed.
-abbrev pub Cheap : ℕ → Account → Type 0
-Cheap cost a = cost + stands a .1 ≤ 2 * a .taken + a .resumed
+abbrev pub WorkBound : ℕ → Account → Type 0
+WorkBound cost a = cost + stands a .1 ≤ 2 * a .taken + a .resumed
 
 -- What the answer to "do they stand equal" tells of two accounts.
-pub record Told (r : Bool) (a b : Account) : Type 0 where
+pub record StandEqual (r : Bool) (a b : Account) : Type 0 where
   pub equal : (r ≡ true → stands a ≡ stands b) × (stands a ≡ stands b → r ≡ true)
   pub alike : a .cues ≡ b .cues → (r ≡ true → Alike (a .cues) (a .text) (b .text)) × (Alike (a .cues) (a .text) (b .text) → r ≡ true)
 
 -- No cue ends at an event before the wait is over.
-abbrev pub Quiet : Account → Option ℕ → Type 0
-Quiet a r = (w : ℕ) → r ≡ Some w → (1 ≤ w) × ((s : List ℕ) → 0 < length s → length s < w → sightings (a .cues) (a .text ++ s) ≡ [])
+abbrev pub NoneEarlier : Account → Option ℕ → Type 0
+NoneEarlier a r = (w : ℕ) → r ≡ Some w → (1 ≤ w) × ((s : List ℕ) → 0 < length s → length s < w → sightings (a .cues) (a .text ++ s) ≡ [])

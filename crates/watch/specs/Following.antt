@@ -38,14 +38,14 @@ Wrote cues text place old new from r =
 
 -- What is followed behind the text that counts: how many signs are taken, how many entries are written,
 -- why it ends, and the list of entries afterwards, of which the later ones are untouched.
-pub record Followed-right (a : Account) (signs : List ℕ) (old new : List Entry) (r : Followed) : Type 0 where
+pub record FollowAnswer (a : Account) (signs : List ℕ) (old new : List Entry) (r : Followed) : Type 0 where
   pub taken : r .taken ≡ followed (a .cues) (a .text) (length old) signs
   pub written : r .written ≡ length (entries (a .cues) (a .text) (length old) signs)
   pub ended : endingNumber (r .ending) ≡ ending (a .cues) (a .text) (length old) signs
   pub list : new ≡ map entryOf (entries (a .cues) (a .text) (length old) signs) ++ drop (r .written) old
 
 -- Cue n of a book, of k events, ends a list of events.
-pub record Heard {E : Type 0} (same : E → E → Bool) (h : Held E) (n k : ℕ) (events : List E) : Type 0 where
+pub record EndsEvents {E : Type 0} (same : E → E → Bool) (h : Held E) (n k : ℕ) (events : List E) : Type 0 where
   pub number : n < length (h .cues)
   pub long : getD (h .cues) n (cueAt 0 0) .len ≡ k
   pub last : EndsSame same (partOf (h .material) (getD (h .cues) n (cueAt 0 0))) events
@@ -53,14 +53,14 @@ pub record Heard {E : Type 0} (same : E → E → Bool) (h : Held E) (n k : ℕ)
 -- The same in events, where the book handed in is the one loaded and the text that counts is the list of
 -- the signs of some events: an entry is written exactly where a cue's events end the events so far, and
 -- the text is then that of these events and those taken. What was looked up is their signs.
-pub record Events-right {E : Type 0} (same : E → E → Bool) (h : Held E) (a : Account) (before events : List E) (free : ℕ) : Type 0 where
-  pub heard : (p n k : ℕ) → Among (p, n, k) (entries (a .cues) (a .text) free (lookups same h events)) →
-      (i : ℕ) × (p ≡ length before + i) × (i < followed (a .cues) (a .text) free (lookups same h events)) × Heard same h n k (before ++ take (suc i) events)
-  pub listed : (p n k i : ℕ) → p ≡ length before + i → i < followed (a .cues) (a .text) free (lookups same h events) → Heard same h n k (before ++ take (suc i) events) →
+pub record InEvents {E : Type 0} (same : E → E → Bool) (h : Held E) (a : Account) (before events : List E) (free : ℕ) : Type 0 where
+  pub only : (p n k : ℕ) → Among (p, n, k) (entries (a .cues) (a .text) free (lookups same h events)) →
+      (i : ℕ) × (p ≡ length before + i) × (i < followed (a .cues) (a .text) free (lookups same h events)) × EndsEvents same h n k (before ++ take (suc i) events)
+  pub all : (p n k i : ℕ) → p ≡ length before + i → i < followed (a .cues) (a .text) free (lookups same h events) → EndsEvents same h n k (before ++ take (suc i) events) →
       Among (p, n, k) (entries (a .cues) (a .text) free (lookups same h events))
   pub signs : lookups same h events ≡ signsOf same (h .material) events
   pub text : (n : ℕ) → a .text ++ take n (lookups same h events) ≡ signsOf same (h .material) (before ++ take n events)
 
 abbrev pub Loaded-events : {E : Type 0} → (E → E → Bool) → Held E → List E → ℕ → Account → Type 0
 Loaded-events {E = E} same h events free a =
-    (before : List E) → Signed same h → a .cues ≡ cueSigns h → a .text ≡ signsOf same (h .material) before → Events-right same h a before events free
+    (before : List E) → Signed same h → a .cues ≡ cueSigns h → a .text ≡ signsOf same (h .material) before → InEvents same h a before events free

@@ -9,9 +9,10 @@ ghost use Rattle.book.specs.Cues.{answer};
 ghost use Rattle.book.specs.Held.{bookHeld, cueSigns};
 ghost use Rattle.engine.specs.Statements.{ith, resumeRefusal};
 ghost use Rattle.matching.specs.Calls.{Call, account, loads, restarts, resumes, seen, stands, takes};
-ghost use Rattle.watch.specs.After.{After, Always, Cheap, Leads, Listed, Tells, Told};
+ghost use Rattle.watch.specs.After.{After, Always, WorkBound, Leads, Listed, Tells, StandEqual};
 ghost use Rattle.watch.specs.Refusals.{loadRefused, takeRefused};
 use crate::endings::has_few_endings;
+use crate::watch::TEXT;
 use crate::watch::Watch;
 use book::Book;
 use engine::Engine;
@@ -19,8 +20,6 @@ use events::Event;
 use events::FoldedByte;
 use events::Refusal;
 use std::alloc::Global;
-
-const TEXT: u32 = 9_999_999;
 
 impl<L: Engine> Watch<L> {
     // A new watch: the empty book is loaded into the engine.
@@ -118,7 +117,7 @@ impl<L: Engine> Watch<L> {
     // The engine, for questions of its own.
     pub fn engine(&self) -> &L
         ensures value { λ r. ⌜ now r ≡ now (self .entry) .engine ⌝ }
-        ensures cheap { λ r. ⌜ Always L·Engine (now (self .entry)) (Cheap (L·Engine .cost (now r))) ⌝ }
+        ensures work { λ r. ⌜ Always L·Engine (now (self .entry)) (WorkBound (L·Engine .cost (now r))) ⌝ }
     {
         &self.engine
     }
@@ -126,7 +125,7 @@ impl<L: Engine> Watch<L> {
     // Whether two watches stand equal. Where both were loaded with one book, that is so exactly when no
     // log can tell them apart.
     pub fn stands_as<M: Engine>(&self, other: &Watch<M>) -> bool
-        ensures { λ r. ⌜ Always L·Engine (now (self .entry)) (λ a. Always M·Engine (now (other .entry)) (λ b. Told r a b)) ⌝ }
+        ensures { λ r. ⌜ Always L·Engine (now (self .entry)) (λ a. Always M·Engine (now (other .entry)) (λ b. StandEqual r a b)) ⌝ }
     {
         self.standing() == other.standing()
     }

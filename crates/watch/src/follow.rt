@@ -8,16 +8,15 @@ ghost use Rattle.book.specs.Held.{bookHeld, lookup, lookups};
 ghost use Rattle.matching.specs.Calls.{follows};
 ghost use Rattle.matching.specs.Match.{live as liveOf};
 ghost use Rattle.watch.specs.After.{Always, Leads};
-ghost use Rattle.watch.specs.Following.{endingNumber, Followed-right, Loaded-events, Wrote};
+ghost use Rattle.watch.specs.Following.{endingNumber, FollowAnswer, Loaded-events, Wrote};
 use crate::following::Ending;
 use crate::following::Followed;
+use crate::watch::TEXT;
 use crate::watch::Watch;
 use book::Book;
 use book::Entry;
 use engine::Engine;
 use events::Event;
-
-const TEXT: u32 = 9_999_999;
 
 const FREE: usize = 32;
 
@@ -86,7 +85,7 @@ impl<L: Engine> Watch<L> {
         events: &[E],
         entries: &mut [Entry],
     ) -> Followed
-        ensures answer { λ r. ⌜ Always L·Engine (now (self .entry)) (λ a. Followed-right a (lookups (E·Event .same) (bookHeld (now (book .entry))) (now (events .entry))) (now (entries .entry)) (now (entries .exit)) r) ⌝ }
+        ensures answer { λ r. ⌜ Always L·Engine (now (self .entry)) (λ a. FollowAnswer a (lookups (E·Event .same) (bookHeld (now (book .entry))) (now (events .entry))) (now (entries .entry)) (now (entries .exit)) r) ⌝ }
         ensures leads { λ _. ⌜ Leads L·Engine (now (self .entry)) (follows (lookups (E·Event .same) (bookHeld (now (book .entry))) (now (events .entry))) (length (now (entries .entry)))) (now (self .exit)) ⌝ }
         ensures events { λ _. ⌜ Always L·Engine (now (self .entry)) (Loaded-events (E·Event .same) (bookHeld (now (book .entry))) (now (events .entry)) (length (now (entries .entry)))) ⌝ }
     {

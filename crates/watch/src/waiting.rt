@@ -6,7 +6,7 @@ ghost use lib.ListN.{getD, length};
 ghost use Rattle.book.specs.Held.{bookHeld, cueSigns};
 ghost use Rattle.matching.specs.Calls.{stands};
 ghost use Rattle.matching.specs.Match.{shortest, wait as waitOf};
-ghost use Rattle.watch.specs.After.{Always, Quiet};
+ghost use Rattle.watch.specs.After.{Always, NoneEarlier};
 use crate::watch::Watch;
 use book::Book;
 use engine::Engine;
@@ -28,7 +28,7 @@ impl<L: Engine> Watch<L> {
     // but at least 1. With the loaded book, no cue ends at an earlier further event.
     pub fn wait<E: Event>(&self, book: &Book<E>) -> Option<usize>
         ensures value { λ r. ⌜ Always L·Engine (now (self .entry)) (λ a. r ≡ waitOf (cueSigns (bookHeld (now (book .entry)))) (stands a .1)) ⌝ }
-        ensures quiet { λ r. ⌜ Always L·Engine (now (self .entry)) (λ a. a .cues ≡ cueSigns (bookHeld (now (book .entry))) → Quiet a r) ⌝ }
+        ensures earlier { λ r. ⌜ Always L·Engine (now (self .entry)) (λ a. a .cues ≡ cueSigns (bookHeld (now (book .entry))) → NoneEarlier a r) ⌝ }
     {
         if book.cues().is_empty() {
             return None;

@@ -4,7 +4,7 @@ use native.Mathlib.Omega.{arith}
 use lib.ListN.{getD}
 use Rattle.book.specs.Held.{bookHeld, cueSigns}
 use Rattle.matching.specs.Match.{ends}
-use Rattle.watch.proofs.Books.{book-bookish, cues-long}
+use Rattle.watch.proofs.Books.{book-cues-of, cues-long}
 use Rattle.watch.proofs.Counted.{count-all, count-more, count-sightings}
 use Rattle.watch.proofs.endings.endings.Needs as need
 use Rattle.watch.proofs.endings.endings.Needs.{then-is-ending, else-is-ending}
@@ -24,4 +24,4 @@ returns g c =
     let cues = cueSigns (bookHeld (c .args .book .now)) in
     let text = getD cues (c .args .number) [] in
     let long = cues-long (c .args .book .now) (c .cues-c-end .result .now) (c .cues-c-end .ensures) in
-    omega (arith, c .loop-c .inv .0, count-all cues text (c .loop-c .c) (omega (arith, c .loop-c-test .left)), count-sightings cues text (book-bookish (c .args .book .now) .some-signs))
+    omega (arith, c .loop-c .inv .0, count-all cues text (c .loop-c .c) (omega (arith, c .loop-c-test .left)), count-sightings cues text (book-cues-of (c .args .book .now) .some-signs))

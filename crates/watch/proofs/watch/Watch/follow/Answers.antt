@@ -9,7 +9,7 @@ use Rattle.book.specs.declared.draft.Book.{Book}
 use Rattle.matching.specs.Calls.{Account}
 use Rattle.matching.specs.Match.{sightings}
 use Rattle.watch.specs.Following.{Loaded-events}
-use Rattle.watch.proofs.Books.{book-bookish, book-within}
+use Rattle.watch.proofs.Books.{book-cues-of, book-within}
 use Rattle.watch.proofs.Hearing.{loaded-events}
 use Rattle.watch.proofs.Runs.{followed-right}
 use Rattle.watch.proofs.Sofar.{Ended, ended-done, ended-few, ended-full, sofar-more, sofar-none}
@@ -24,7 +24,7 @@ loop-i-holds g c = (omega arith, λ begun few. sofar-none _ _ _ _ _ _ begun)
 in-events : (g : Over) (b : Book (g .E .Denot)) (events : List (g .E .Denot)) (free : ℕ) (a : Account) → Loaded-events (g .E·Event .same) (bookHeld b) events free a
 in-events g b events free a =
     loaded-events (g .E·Event .same) (record { reflexive = g .E·Event·met .reflexive; symmetric = g .E·Event·met .symmetric; transitive = g .E·Event·met .transitive }) (bookHeld b)
-    (omega (arith, b .short, b .material .ok .0)) (book-within b) (book-bookish b .some-signs) a events free
+    (omega (arith, b .short, b .material .ok .0)) (book-within b) (book-cues-of b .some-signs) a events free
 
 pub returns-then-self-ge-TEXT : need.returns-then-self-ge-TEXT
 returns-then-self-ge-TEXT g c =

@@ -10,7 +10,7 @@ use Rattle.matching.specs.Calls.{account, stands}
 use Rattle.matching.specs.Match.{shortest, wait}
 use Rattle.watch.specs.After.{Always}
 use Rattle.watch.proofs.Books.{cues-long}
-use Rattle.watch.proofs.Shortest.{quiet-right, wait-none, wait-some}
+use Rattle.watch.proofs.Shortest.{none-earlier-right, wait-none, wait-some}
 use Rattle.watch.proofs.watch.Watch.wait.Needs as need
 
 pub returns-then-is-empty : need.returns-then-is-empty
@@ -20,7 +20,7 @@ returns-then-is-empty g c =
     let none = eqb-true _ _ (sym (c .if-is-empty .ensures tt)) in
     record {
       value = λ calls h. wait-none cues _ (long ∙ none);
-      quiet = λ calls h same. quiet-right (account (g .L·Engine .room) calls) cues None same (wait-none cues _ (long ∙ none));
+      earlier = λ calls h same. none-earlier-right (account (g .L·Engine .room) calls) cues None same (wait-none cues _ (long ∙ none));
     }
 
 pub returns : need.returns
@@ -33,4 +33,4 @@ returns g c =
     let live : c .standing-live .result .1 ≡ k = ap (λ s. s .1) (c .standing-live .ensures .value calls h) in
     let e : c .max .result ≡ max 1 (shortest (length (getD cues 0 [])) cues - k) = omega (arith, c .max .ensures, c .saturating-sub-least .ensures, c .shortest-cue .ensures, live) in
     ap (λ n. Some n) e ∙ wait-some cues k some in
-    record { value = value; quiet = λ calls h same. quiet-right (account (g .L·Engine .room) calls) cues (Some (c .max .result)) same (value calls h) }
+    record { value = value; earlier = λ calls h same. none-earlier-right (account (g .L·Engine .room) calls) cues (Some (c .max .result)) same (value calls h) }
