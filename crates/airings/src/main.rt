@@ -1,6 +1,8 @@
 // The program airings: reads a cue sheet and a log from standard input, and writes every sighting of a
 // cue in the log and the totals, or the refusal with its line behind the sightings so far.
 
+#![tactic(auto)]
+
 use std::io::{Read, Write};
 
 // One byte more than is accepted, so that a longer input is seen to be longer.

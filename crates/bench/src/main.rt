@@ -1,6 +1,8 @@
 // A benchmark of the engines: nanoseconds for each sign, beside a naive search, on standard error. The
 // numbers of sightings, which must agree, go to standard output.
 
+#![tactic(auto)]
+
 ghost use Rattle.std.specs.Prelude.{◌<◌};
 
 use bits::BitEngine;

@@ -2,6 +2,8 @@
 // other programs. Each call makes a book, loads it and searches a text. A book is given as its cues one
 // behind the other and the length of each; an event is a number.
 
+#![tactic(auto)]
+
 mod number;
 mod tally;
 

@@ -1,5 +1,7 @@
 // The cue book: a draft takes cues and is sealed into a book; the sign of an event under a book.
 
+#![tactic(auto)]
+
 mod cue;
 mod draft;
 mod entry;

@@ -1,5 +1,7 @@
 // The fixed columns of the input and output lines: what a line is read as, and how a line is written.
 
+#![tactic(auto)]
+
 mod asrun;
 mod field;
 mod kind;

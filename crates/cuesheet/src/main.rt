@@ -1,6 +1,8 @@
 // The program cuesheet: reads a cue sheet from standard input, builds and seals its book, and writes
 // what was added, or the refusal with its line.
 
+#![tactic(auto)]
+
 use std::io::{Read, Write};
 
 // One byte more than is accepted, so that a longer input is seen to be longer.

@@ -1,5 +1,7 @@
 // The interface of an engine (textbook: a matching automaton): six statements over what it means.
 
+#![tactic(auto)]
+
 ghost use Rattle.std.specs.Prelude.{◌≡◌, ℕ, ◌+◌, ◌≤◌, List, [], ◌∷◌, ◌++◌, length, MatchResult};
 ghost use Rattle.book.specs.Cues.{answer};
 ghost use Rattle.book.specs.Held.{book_held, cue_signs};
@@ -16,7 +18,10 @@ pub trait Engine: Sized {
     // The greatest total of signs that the engine holds.
     const CAPACITY: usize;
 
-    // The capacity, for contracts: the language does not let them name the constant of a bound.
+    // The same number in contracts.
+    ghost CAPACITY: { ℕ };
+
+    // The capacity, for contracts.
     ghost room: { ℕ };
 
     ghost cues: { Self → List (List ℕ) };

@@ -1,5 +1,7 @@
 // What the watch asks of a kind of event, the kind `folded byte`, and the refusals.
 
+#![tactic(auto)]
+
 ghost use Rattle.std.specs.Prelude.{Bool, true, ◌≡◌};
 ghost use Rattle.events.specs.Refused.{number_of};
 ghost use Rattle.events.specs.Sameness.{same_bytes};

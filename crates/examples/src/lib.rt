@@ -1,5 +1,7 @@
 // The worked examples: as facts of the definitions, and run.
 
+#![tactic(auto)]
+
 ghost use Rattle.examples.specs.Runs.{LogRuns};
 ghost use Rattle.examples.specs.Worked.{Worked};
 

@@ -1,5 +1,7 @@
 // The watch above the link engine: the bound on its trials.
 
+#![tactic(auto)]
+
 ghost use Rattle.std.specs.Prelude.{◌≡◌};
 ghost use Rattle.links.specs.contracts.link_engine.calls.LinkEngineEngine.TheImpl.{ghosts};
 ghost use Rattle.watch.specs.After.{Always, WorkBound};

@@ -1,6 +1,8 @@
 // The table of beginnings (textbook: the trie of the patterns with its failure links), one entry for
 // each beginning. This crate has the entry as a struct, and the theory of tables of entries.
 
+#![tactic(auto)]
+
 // An entry (textbook: a trie node). Its beginning is the first `len` signs of cue number `cue`, which
 // is the lowest cue that begins so.
 #[derive(Clone, Copy)]

@@ -1,5 +1,8 @@
 // The theory of exact matching of several patterns: definitions and laws over lists of numbers, in specs/. Each function here has
 // one law as its contract, so that the crate passes only if the law is proved.
+
+#![tactic(auto)]
+
 ghost use Rattle.matching.specs.Laws.{BeginningRead, FrontsBegin, LiveRight, LiveOnly, LiveEnough, SightingsLive, SightingsRead, SightingsFall, SightingsOnce, SightingsOnly, SightingsFew, StandingsTell, StandingBack, StandingOne, LinkRight, WalkRight, TriesWalk, TriesFew, SightingsWalk, EndsRead, WaitRight};
 ghost use Rattle.matching.specs.Follow.{FollowLive, EntriesRead, FollowFits, EndingRead};
 ghost use Rattle.matching.specs.Calls.{CallsKept, HeldRight, FollowSteps, CallsCheap, SpentStep, CallsTell, CallsFew, ResumeBack, RoomsAlike, EndingsFew};

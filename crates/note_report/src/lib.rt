@@ -1,5 +1,7 @@
 // The report of notes: where words stand in a text.
 
+#![tactic(auto)]
+
 mod notes;
 mod reading;
 

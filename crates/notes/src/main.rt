@@ -1,6 +1,8 @@
 // The program notes: reads words and a text from standard input, and writes every sighting of a word in
 // the text and the totals, or the refusal with its line.
 
+#![tactic(auto)]
+
 use std::io::{Read, Write};
 
 // One byte more than is accepted, so that a longer input is seen to be longer.

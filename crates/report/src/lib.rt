@@ -1,5 +1,7 @@
 // The report of what an input says: the runs of its cues in its text and the totals, or a refusal.
 
+#![tactic(auto)]
+
 mod booking;
 mod limit;
 mod listing;

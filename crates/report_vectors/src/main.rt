@@ -2,6 +2,8 @@
 // the program of the frame's letter writes and a line of two hyphens on standard output. A frame is a
 // header of a letter, a blank, the payload's length in 7 columns and byte 10, and then the payload.
 
+#![tactic(auto)]
+
 use airing_report::airings_report;
 use columns::{read_number, split_line};
 use note_report::notes_report;

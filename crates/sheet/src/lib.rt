@@ -1,5 +1,7 @@
 // Reading a cue sheet into a book, and the report of it.
 
+#![tactic(auto)]
+
 mod listing;
 mod reading;
 mod report;

@@ -2,6 +2,8 @@
 // output. A frame is a header of a letter, a blank, the payload's length in 7 columns and byte 10, and
 // then the payload.
 
+#![tactic(auto)]
+
 use columns::{
     Line, Section, entry_line, read_line, read_number, refusal_line, split_line, total_line,
 };

@@ -1,5 +1,7 @@
 // The watch: an engine and the length of its text, written once above every engine.
 
+#![tactic(auto)]
+
 mod calls;
 mod endings;
 mod follow;

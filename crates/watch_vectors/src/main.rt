@@ -1,6 +1,8 @@
 // Runs the scripts of an independent program on watches above both engines: a command to a line on
 // standard input, the answers on standard output.
 
+#![tactic(auto)]
+
 use bits::BitEngine;
 use book::{Book, Draft, Entry};
 use columns::split_line;

@@ -12,6 +12,8 @@ use events::{Event, Refusal};
 impl Engine for BitEngine {
     const CAPACITY: usize = 64;
 
+    ghost CAPACITY = { 64 };
+
     ghost room = { 64 };
 
     ghost cues = { cues_of };
@@ -22,7 +24,7 @@ impl Engine for BitEngine {
 
     fn most() -> usize
         ensures room { result ≡ 64 }
-        ensures* constant { do ⌜ result ≡ (← (⟦Self::CAPACITY⟧).entry) ⌝ }
+        ensures constant { result ≡ ⟦<BitEngine as Engine>⟧.CAPACITY }
     {
         Self::CAPACITY
     }

@@ -75,6 +75,8 @@ impl LinkEngine {
 impl Engine for LinkEngine {
     const CAPACITY: usize = 1024;
 
+    ghost CAPACITY = { 1024 };
+
     ghost room = { 1024 };
 
     ghost cues = { engine_cues };
@@ -85,7 +87,7 @@ impl Engine for LinkEngine {
 
     fn most() -> usize
         ensures room { result ≡ 1024 }
-        ensures* constant { do ⌜ result ≡ (← (⟦Self::CAPACITY⟧).entry) ⌝ }
+        ensures constant { result ≡ ⟦<LinkEngine as Engine>⟧.CAPACITY }
     {
         Self::CAPACITY
     }
