@@ -1,12 +1,12 @@
 -- One cue more, laid behind the others.
-use Rattle.std.proofs.Common.{◌≡◌, ℕ, zero, suc, ◌+◌, ◌-◌, ◌*◌, ◌%◌, ◌^◌, ◌<◌, ◌≤◌, Bool, true, false, not, ◌&&◌, ◌||◌, eqb, List, [], ◌∷◌, ◌++◌, length, get_or, take, drop, sym, refl, ap, ◌∙◌, subst, ap₂, ⊎_elim, arith}
+use Rattle.std.proofs.Common.{◌≡◌, ℕ, zero, suc, ◌+◌, ◌-◌, ◌*◌, ◌%◌, ◌^◌, ◌<◌, ◌≤◌, true, false, eqb, List, [], ◌∷◌, ◌++◌, length, get_or, take, drop, sym, refl, ap, ◌∙◌, subst, ap₂, ⊎_elim, arith}
 use lib.Bits.{bit_or}
 use Rattle.std.proofs.lemmas.List.{get_or_append_left, get_or_at, length_push, length-append, length-drop, drop_at, drop-append-le, take_all, take-append-le, map_push, at_drop_more}
-use Rattle.std.proofs.lemmas.Bool.{cases_lt, ne_eqb}
+use Rattle.std.proofs.lemmas.Bool.{cases_lt}
 use Rattle.book.specs.Cues.{cue_at, part_of, parts_of, AllWithin}
 use Rattle.book.specs.declared.cue.Cue.{Cue}
 use Rattle.matching.specs.Calls.{total}
-use Rattle.matching.specs.Match.{same, listed, distinct}
+use Rattle.matching.specs.Match.{listed, distinct}
 use Rattle.bits_theory.specs.Words.{bit}
 use Rattle.bits_theory.specs.Laid.{span_at, Spanned, Starts, Stops, Clear, Exact, reach}
 use Rattle.bits_theory.proofs.Bit.{bit_or_lem, bit_flag, bit_zero}

@@ -1,10 +1,10 @@
 -- The bits of `and`, `or`, a shift and a single bit.
-use Rattle.std.proofs.Common.{◌≡◌, ℕ, zero, suc, ◌+◌, ◌-◌, ◌*◌, ◌/◌, ◌%◌, ◌^◌, ◌<◌, ◌≤◌, Bool, true, false, ◌&&◌, ◌||◌, eqb, ltb, List, [], ◌∷◌, ◌++◌, length, get_or, set, sym, refl, ap, ◌∙◌, subst, ap₂, ⊎_elim, mod-lt, pow-suc, div-add-mod', div-one, mul-div_cancel, arith, pow_pos, pow-add}
+use Rattle.std.proofs.Common.{◌≡◌, ℕ, zero, suc, ◌+◌, ◌-◌, ◌*◌, ◌/◌, ◌%◌, ◌^◌, ◌<◌, false, ◌&&◌, ◌||◌, eqb, List, [], ◌∷◌, ◌++◌, length, get_or, set, sym, refl, ap, ◌∙◌, subst, ap₂, ⊎_elim, mod-lt, pow-suc, div-add-mod', div-one, mul-div_cancel, arith, pow_pos, pow-add}
 use native.Mathlib.Nat.{mul-mod_left, div-div-eq-div-mul, div-eq_of_lt, div_self, pow-succ'}
 use lib.Bits.{bit_and, bit_or, and_shr, and_mod, or_shr, or_mod, and_mask}
-use lib.Pow.{pow-lt, mod-mod-pow, field}
-use Rattle.std.proofs.lemmas.List.{get_or-set_same, get_or-set_other, get_or_append_left, get_or_push, get_or_past, get_or_read, length_push}
-use Rattle.std.proofs.lemmas.Bool.{cases_eq, cases_order, cases_lt, eq-eqb, ne_eqb}
+use lib.Pow.{pow-lt, mod-mod-pow}
+use Rattle.std.proofs.lemmas.List.{get_or-set_same, get_or-set_other, get_or_append_left, get_or_push, get_or_read, length_push}
+use Rattle.std.proofs.lemmas.Bool.{cases_eq, cases_order, eq-eqb, ne_eqb}
 use Rattle.std.proofs.lemmas.Nat.{shl-shr, one_shl, field_of, div_below}
 use Rattle.bits_theory.specs.Words.{bit, low_key, high_key, Marked}
 

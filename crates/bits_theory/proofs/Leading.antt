@@ -1,15 +1,14 @@
 -- The standing, read off the bits: the lowest cue with the longest front whose bit is set.
-use Rattle.std.proofs.Common.{◌≡◌, ℕ, zero, suc, ◌+◌, ◌-◌, ◌<◌, ◌≤◌, Bool, true, false, List, [], ◌∷◌, ◌++◌, length, get_or, take, sym, refl, ap, ◌∙◌, subst, ap₂, ⊎_elim, arith}
+use Rattle.std.proofs.Common.{◌≡◌, ℕ, zero, suc, ◌+◌, ◌<◌, ◌≤◌, true, false, List, [], ◌∷◌, length, get_or, take, sym, refl, ap, ◌∙◌, subst, ap₂, ⊎_elim, arith}
 use Rattle.std.proofs.lemmas.List.{length-map, length-take}
 use Rattle.std.proofs.lemmas.Bool.{cases_Bool, cases_lt}
-use Rattle.book.specs.Cues.{cue_at, part_of, parts_of}
+use Rattle.book.specs.Cues.{part_of, parts_of}
 use Rattle.book.specs.declared.cue.Cue.{Cue}
 use Rattle.matching.specs.Match.{begins, beginning, lowest, ends, standing}
 use Rattle.matching.proofs.Live.{lowest_begins, lowest_is, ends_same}
 use Rattle.matching.proofs.Endings.{ends_true}
-use Rattle.bits_theory.specs.Words.{bit}
 use Rattle.bits_theory.specs.Laid.{span_at, Spanned, Exact, top, Lead}
-use Rattle.bits_theory.proofs.Reach.{length_part, part_at, top_within, top_most, top_set, front_set, begins_front_of, take_some}
+use Rattle.bits_theory.proofs.Reach.{length_part, part_at, top_within, top_most, top_set, front_set, begins_front_of}
 use Rattle.bits_theory.proofs.Longest.{ends_length}
 
 pub lead_start : (state : ℕ) (spans : List Cue) → Lead state spans 0 0 0

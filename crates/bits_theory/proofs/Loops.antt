@@ -1,14 +1,13 @@
 -- The steps of the engine's scans over its cues.
-use Rattle.std.proofs.Common.{◌≡◌, ℕ, zero, suc, ◌+◌, ◌-◌, ◌<◌, ◌≤◌, Bool, true, false, cond, ◌&&◌, List, [], ◌∷◌, ◌++◌, length, get_or, take, drop, sym, refl, ap, ◌∙◌, subst, ap₂, ⊎_elim, add-one, arith, take-suc}
+use Rattle.std.proofs.Common.{◌≡◌, ℕ, zero, suc, ◌+◌, ◌-◌, ◌<◌, ◌≤◌, true, false, cond, ◌&&◌, List, [], ◌∷◌, ◌++◌, length, get_or, take, drop, sym, ap, ◌∙◌, subst, add-one, arith, take-suc}
 use lib.Bits.{bit_and}
 use Rattle.std.proofs.lemmas.List.{at_drop_more, at_drop_all, length-map}
-use Rattle.std.proofs.lemmas.Bool.{cases_Bool}
-use Rattle.book.specs.Cues.{cue_at, part_of, parts_of}
+use Rattle.book.specs.Cues.{part_of, parts_of}
 use Rattle.book.specs.declared.cue.Cue.{Cue}
 use Rattle.matching.specs.Match.{ends, live, sightings}
 use Rattle.matching.proofs.Live.{live_itself}
 use Rattle.bits_theory.specs.Words.{bit}
-use Rattle.bits_theory.specs.Laid.{span_at, Spanned, Stops, Exact, reach}
+use Rattle.bits_theory.specs.Laid.{span_at, Spanned, Stops, Exact}
 use Rattle.bits_theory.specs.Below.{endings, Best}
 use Rattle.bits_theory.proofs.Bit.{bit_and_lem, bit_zero}
 use Rattle.bits_theory.proofs.Reach.{length_part, part_at, part_sign, whole_bit, front_begins}

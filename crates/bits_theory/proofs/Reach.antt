@@ -1,18 +1,18 @@
 -- The longest front whose bit is set is the live beginning, and one step of Shift-And keeps that.
-use Rattle.std.proofs.Common.{◌≡◌, ℕ, zero, suc, ◌+◌, ◌-◌, ◌*◌, ◌%◌, ◌^◌, ◌<◌, ◌≤◌, min, Bool, true, false, cond, ◌&&◌, ◌||◌, eqb, ltb, List, [], ◌∷◌, ◌++◌, length, get_or, take, drop, sym, refl, ap, ◌∙◌, subst, ap₂, ⊎_elim, append-nil, add-zero, add-suc, arith, take-suc}
-use lib.Bits.{bit_and, bit_or}
+use Rattle.std.proofs.Common.{◌≡◌, ℕ, zero, suc, ◌+◌, ◌-◌, ◌*◌, ◌%◌, ◌^◌, ◌<◌, ◌≤◌, min, true, false, cond, ◌&&◌, eqb, ltb, List, [], ◌∷◌, ◌++◌, length, get_or, take, drop, sym, refl, ap, ◌∙◌, subst, ⊎_elim, append-nil, add-suc, arith, take-suc}
+use lib.Bits.{bit_or}
 use Rattle.std.proofs.lemmas.List.{get_or-map, get_or_past, get_or-take, get_or-drop, length-take, length-drop, length-map, length-append, take_all}
 use Rattle.std.proofs.lemmas.Bool.{cases_Bool, cases_lt, cond_both, or_left}
 use Rattle.book.specs.Cues.{cue_at, part_of, parts_of}
 use Rattle.book.specs.declared.cue.Cue.{Cue}
-use Rattle.matching.specs.Match.{begins, some_begins, beginning, live, lowest, same, ends, Ends}
+use Rattle.matching.specs.Match.{begins, some_begins, beginning, live, lowest, same, ends}
 use Rattle.matching.proofs.Live.{begins_take, lowest_begins, some_from_cue, live_begins, ends_same}
 use Rattle.matching.proofs.Sightings.{same_is}
 use Rattle.matching.proofs.Endings.{ends_true, ends_from, ends_itself, ends_live, ends_push}
 use Rattle.bits_theory.specs.Words.{bit}
-use Rattle.bits_theory.specs.Laid.{span_at, Spanned, Starts, Exact, top, top_front, longer, reach, stepped, Stepped}
+use Rattle.bits_theory.specs.Laid.{span_at, Spanned, Starts, Exact, top, top_front, reach, stepped}
 use Rattle.bits_theory.specs.Laws.{ReachRight, StepRight}
-use Rattle.bits_theory.proofs.Bit.{bit_and_lem, bit_or_lem, bit_zero, bit_shift, bit_shift_lowest}
+use Rattle.bits_theory.proofs.Bit.{bit_and_lem, bit_or_lem, bit_zero, bit_shift}
 
 pub length_part : (signs : List ℕ) (c : Cue) → c.place + c.len ≤ length signs → length (part_of signs c) ≡ c.len
 length_part signs c h = length-take c.len (drop c.place signs) ∙ (ap (min c.len) (length-drop c.place signs) ∙ omega arith)

@@ -1,5 +1,5 @@
 -- When a resume is refused.
-use Rattle.std.proofs.Common.{◌≡◌, ℕ, ◌<◌, ◌≤◌, Bool, true, false, ◌&&◌, eqb, ltb, leb, ◌⊎◌, List, [], length, get_or, Some, None, sym, refl, ap, ◌∙◌, ⊎_elim, arith}
+use Rattle.std.proofs.Common.{◌≡◌, ℕ, ◌<◌, ◌≤◌, false, ◌&&◌, eqb, ◌⊎◌, List, [], length, get_or, Some, None, refl, ⊎_elim}
 use Rattle.std.proofs.lemmas.Bool.{ne_eqb, and_left, and_right, le-leb, lt-leb, lt-ltb, le-ltb}
 use Rattle.events.specs.declared.Refusal.TheVariants.{NoSuchCue, BehindCue}
 use Rattle.engine.specs.Statements.{resume_refusal}

@@ -1,5 +1,5 @@
 -- The worked log, told by events alone.
-use Rattle.std.specs.Prelude.{◌≡◌, ℕ, List, [], ◌∷◌}
+use Rattle.std.specs.Prelude.{◌≡◌, List, [], ◌∷◌}
 use Rattle.columns.specs.AsRuns.{Values, same_values}
 use Rattle.script.specs.Runs.{runs}
 

@@ -1,5 +1,5 @@
 -- The worked examples, shown of the definitions; a letter is its code.
-use Rattle.std.specs.Prelude.{◌≡◌, ℕ, true, false, eqb, List, [], ◌∷◌, map, replicate, Some, None}
+use Rattle.std.specs.Prelude.{◌≡◌, ℕ, true, false, List, [], ◌∷◌, map, replicate, Some, None}
 use Rattle.events.specs.Sameness.{same_bytes, same_lists}
 use Rattle.events.specs.declared.Refusal.TheVariants.{LongCue, SameCue}
 use Rattle.book.specs.Cues.{cue_at}

@@ -1,13 +1,12 @@
 -- Calls: each keeps what a watch holds, and what follows from that.
 -- Assumes nothing.
-use Rattle.std.proofs.Common.{◌≡◌, ℕ, zero, suc, ◌+◌, ◌-◌, ◌*◌, ◌<◌, ◌≤◌, min, Bool, true, false, cond, ◌&&◌, ◌||◌, eqb, ltb, leb, ◌⊎◌, List, [], ◌∷◌, ◌++◌, length, get_or, take, drop, sym, refl, ap, ◌∙◌, subst, inl, inr, ⊎_elim, append_assoc, append-nil, arith, length-append, length-take}
+use Rattle.std.proofs.Common.{◌≡◌, ℕ, zero, suc, ◌+◌, ◌-◌, ◌*◌, ◌<◌, ◌≤◌, true, false, ◌&&◌, leb, List, [], ◌∷◌, ◌++◌, length, get_or, take, drop, sym, refl, ap, ◌∙◌, subst, append_assoc, append-nil, arith, length-append, length-take}
 use Rattle.std.specs.List.{AllByRecursion as All}
-use Rattle.std.proofs.lemmas.Bool.{cond_both, cases_Bool}
-use Rattle.std.proofs.lemmas.List.{take-append-drop, take-append-le, drop-append-le, take_all, drop_all}
-use Rattle.matching.specs.Match.{same, listed, exact, some_begins, beginning, live, lowest, standing, sightings, tries, trials, distinct, Signs, Alike}
-use Rattle.matching.specs.Follow.{longest_text, takable, followed, followed_at}
-use Rattle.matching.specs.Calls.{Call, Account, Holds, Keeps, total, few_endings, loadable, resumable, anew, reset, extended, after, account, seen, stands, spent, CallsKept, HeldRight, FollowSteps, CallsCheap, SpentStep, CallsTell, ResumeBack, EndingsFew, CallsFew, SameGrant, RoomsAlike, loads, takes, follows, resumes, restarts}
-use Rattle.matching.proofs.Live.{live_begins, live_enough, live_itself, live_short, beginning_front, some_from_cue, begins_append, lowest_begins, begins_rest, standing_back, tries_bound, trials_bound, tries_live}
+use Rattle.std.proofs.lemmas.List.{take-append-drop, take-append-le, drop-append-le}
+use Rattle.matching.specs.Match.{listed, beginning, live, lowest, standing, sightings, tries, trials, distinct, Alike}
+use Rattle.matching.specs.Follow.{takable, followed, followed_at}
+use Rattle.matching.specs.Calls.{Call, Account, Holds, few_endings, resumable, after, account, stands, spent, CallsKept, HeldRight, FollowSteps, CallsCheap, SpentStep, CallsTell, ResumeBack, EndingsFew, CallsFew, SameGrant, RoomsAlike, loads, takes, follows, resumes, restarts}
+use Rattle.matching.proofs.Live.{live_begins, live_enough, live_itself, beginning_front, some_from_cue, begins_append, lowest_begins, begins_rest, standing_back, trials_bound, tries_live}
 use Rattle.matching.proofs.Sightings.{sightings_live, sightings_few, exact_unlisted, same_is}
 use Rattle.matching.proofs.Standings.{standings_tell}
 use Rattle.matching.proofs.Follow.{followed_at_lem, followed_few}

@@ -1,10 +1,10 @@
 -- The test for an ending, and the wait.
 -- Assumes nothing.
-use Rattle.std.proofs.Common.{◌≡◌, ℕ, zero, suc, ◌+◌, ◌-◌, ◌<◌, ◌≤◌, min, max, Bool, true, false, cond, ◌&&◌, ◌||◌, eqb, ◌⊎◌, List, [], ◌∷◌, ◌++◌, length, get_or, Some, None, Option, sym, refl, ap, ◌∙◌, subst, inl, inr, ⊎_elim, append-nil, arith, length-append}
-use Rattle.std.proofs.lemmas.Bool.{cases_Bool, or_cases}
-use Rattle.matching.specs.Match.{begins, some_begins, beginning, live, same, ends, sightings, shortest, wait, Ends, Among}
+use Rattle.std.proofs.Common.{◌≡◌, ℕ, zero, suc, ◌+◌, ◌<◌, ◌≤◌, min, true, false, ◌&&◌, eqb, List, [], ◌∷◌, ◌++◌, length, get_or, sym, refl, ap, subst, inl, ⊎_elim, arith, length-append}
+use Rattle.std.proofs.lemmas.Bool.{or_cases}
+use Rattle.matching.specs.Match.{beginning, live, same, ends, sightings, shortest, Ends, Among}
 use Rattle.matching.specs.Laws.{EndsRead, WaitRight}
-use Rattle.matching.proofs.Sightings.{same_itself, same_is, same_begins, sightings_enough, sightings_sound}
+use Rattle.matching.proofs.Sightings.{same_itself, same_is, sightings_enough, sightings_sound}
 
 pub ends_true : (b t : List ℕ) → ends b t ≡ true → Ends b t
 ends_true b [] h = ([], same_is b [] h)

@@ -1,10 +1,10 @@
 -- Following a list of signs: what is written, and why it ends.
 -- Assumes nothing.
-use Rattle.std.proofs.Common.{◌≡◌, ℕ, zero, suc, ◌+◌, ◌-◌, ◌<◌, ◌≤◌, Bool, true, false, cond, ◌&&◌, ltb, leb, ◌⊎◌, List, [], ◌∷◌, ◌++◌, map, length, get_or, take, sym, refl, ap, ◌∙◌, subst, inl, inr, ⊎_elim, append_assoc, arith, length-append}
+use Rattle.std.proofs.Common.{◌≡◌, ℕ, zero, suc, ◌+◌, ◌-◌, ◌<◌, ◌≤◌, true, false, ◌&&◌, leb, List, [], ◌∷◌, ◌++◌, length, get_or, take, sym, refl, ap, ◌∙◌, subst, inl, inr, ⊎_elim, append_assoc, arith, length-append}
 use Rattle.std.proofs.lemmas.Bool.{cases_Bool}
 use Rattle.std.proofs.lemmas.List.{length-map, take_more}
 use Rattle.matching.specs.Match.{live, sightings, Among}
-use Rattle.matching.specs.Follow.{longest_text, takable, followed, placed, entries, ending, followed_at, entries_at, ending_at, FollowLive, EntriesRead, FollowFits, EndingRead}
+use Rattle.matching.specs.Follow.{takable, followed, placed, entries, ending, followed_at, entries_at, ending_at, FollowLive, EntriesRead, FollowFits, EndingRead}
 use Rattle.matching.proofs.Live.{live_enough}
 use Rattle.matching.proofs.Sightings.{among_left, among_right, among_cases, sightings_enough}
 

@@ -1,8 +1,8 @@
 -- Fronts, beginnings and the live beginning.
 -- Assumes nothing.
-use Rattle.std.proofs.Common.{◌≡◌, ℕ, zero, suc, ◌+◌, ◌*◌, ◌<◌, ◌≤◌, Bool, true, false, cond, not, ◌&&◌, ◌||◌, eqb, ◌⊎◌, List, [], ◌∷◌, ◌++◌, length, get_or, take, drop, sym, refl, ap, ◌∙◌, inl, inr, ⊎_elim, append_assoc, append-nil, arith, length-append}
-use Rattle.std.proofs.lemmas.Bool.{cond_both, cases_Bool}
-use Rattle.matching.specs.Match.{begins, some_begins, beginning, live, lowest, standing, link, tries, trials, Ends}
+use Rattle.std.proofs.Common.{◌≡◌, ℕ, zero, suc, ◌+◌, ◌*◌, ◌<◌, ◌≤◌, true, false, List, [], ◌∷◌, ◌++◌, length, get_or, take, drop, sym, refl, ap, ◌∙◌, inl, inr, ⊎_elim, append_assoc, append-nil, arith, length-append}
+use Rattle.std.proofs.lemmas.Bool.{cond_both}
+use Rattle.matching.specs.Match.{begins, some_begins, beginning, live, lowest, tries, trials, Ends}
 use Rattle.matching.specs.Laws.{BeginningRead, FrontsBegin, LiveRight, LiveOnly, LiveEnough, StandingBack, StandingOne, LinkRight, WalkRight, TriesWalk, TriesFew}
 
 -- a front of a front is a front

@@ -1,10 +1,9 @@
 -- The sightings: what they are, how they fall, how many there are.
 -- Assumes nothing.
-use Rattle.std.proofs.Common.{◌≡◌, ℕ, zero, suc, ◌+◌, ◌<◌, ◌≤◌, Bool, true, false, cond, not, ◌&&◌, ◌||◌, eqb, ◌⊎◌, List, [], ◌∷◌, ◌++◌, length, get_or, sym, refl, ap, ◌∙◌, subst, inl, inr, ⊎_elim, append-nil, arith, length-append}
-use Rattle.std.specs.List.{AllByRecursion as All}
-use Rattle.std.proofs.lemmas.Bool.{cond_both, cases_Bool}
+use Rattle.std.proofs.Common.{◌≡◌, ℕ, zero, suc, ◌+◌, ◌<◌, ◌≤◌, true, false, ◌⊎◌, List, [], ◌∷◌, ◌++◌, length, get_or, sym, refl, ap, ◌∙◌, inl, inr, ⊎_elim, append-nil, arith, length-append}
+use Rattle.std.proofs.lemmas.Bool.{cond_both}
 use Rattle.std.proofs.ByRecursion.{All-get_or}
-use Rattle.matching.specs.Match.{begins, some_begins, beginning, live, same, exact, sightings, listed, distinct, filled, Ends, Sighted, Among}
+use Rattle.matching.specs.Match.{begins, some_begins, live, same, exact, sightings, listed, distinct, filled, Sighted, Among}
 use Rattle.matching.specs.Laws.{SightingsLive, SightingsRead, SightingsFall, SightingsOnce, SightingsOnly, SightingsFew, SightingsWalk}
 use Rattle.matching.proofs.Live.{some_front}
 

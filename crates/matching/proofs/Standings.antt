@@ -1,10 +1,10 @@
 -- Standings: two texts have one standing exactly when nothing put behind both tells them apart.
 -- Assumes nothing.
-use Rattle.std.proofs.Common.{◌≡◌, ℕ, zero, suc, ◌+◌, ◌<◌, ◌≤◌, Bool, true, false, List, [], ◌∷◌, ◌++◌, length, get_or, drop, sym, refl, ap, ◌∙◌, subst, append_assoc, append-nil, arith, length-append}
+use Rattle.std.proofs.Common.{◌≡◌, ℕ, ◌<◌, true, List, [], ◌∷◌, ◌++◌, length, get_or, drop, sym, refl, ap, ◌∙◌, subst, append_assoc, append-nil, arith}
 use Rattle.std.specs.List.{AllByRecursion as All}
 use Rattle.std.proofs.ByRecursion.{All-get_or, All-drop}
 use Rattle.std.proofs.lemmas.List.{append_cancel_right}
-use Rattle.matching.specs.Match.{begins, some_begins, beginning, live, lowest, standing, sightings, Ends, Among, Signs, Alike}
+use Rattle.matching.specs.Match.{beginning, live, lowest, standing, sightings, Ends, Among, Signs, Alike}
 use Rattle.matching.specs.Laws.{StandingsTell}
 use Rattle.matching.proofs.Live.{ends_same, live_begins, live_ends, live_right, lowest_begins, begins_rest, standing_one}
 use Rattle.matching.proofs.Sightings.{sightings_enough, sightings_sound, sightings_all}

@@ -1,6 +1,6 @@
 -- Worked examples of the definitions; a letter is its code, as 97 for a.
 -- Assumes nothing.
-use Rattle.std.specs.Prelude.{◌≡◌, ℕ, List, [], ◌∷◌, ◌++◌, map, length, take, None}
+use Rattle.std.specs.Prelude.{◌≡◌, ℕ, List, [], ◌∷◌, map, length, None}
 use Rattle.matching.specs.Match.{live, sightings, standing, link, trials, wait}
 use Rattle.matching.specs.Follow.{entries}
 

@@ -1,8 +1,8 @@
 -- The laws of matching, in the textbook's words. Each is proved: a function of this crate has it as its contract.
 -- Assumes nothing.
-use Rattle.std.specs.Prelude.{◌≡◌, ℕ, suc, ◌+◌, ◌*◌, ◌<◌, ◌≤◌, Bool, true, false, ◌&&◌, ◌⊎◌, List, [], ◌∷◌, ◌++◌, length, get_or, take, Some, None, Option, ◌==◌, ◌≢◌, slice_index_or}
+use Rattle.std.specs.Prelude.{◌≡◌, ℕ, suc, ◌+◌, ◌*◌, ◌<◌, ◌≤◌, true, false, ◌&&◌, ◌⊎◌, List, [], ◌∷◌, ◌++◌, length, get_or, take, Some, ◌==◌, ◌≢◌, slice_index_or}
 use Rattle.std.specs.List.{AllByRecursion as All}
-use Rattle.matching.specs.Match.{begins, beginning, live, exact, sightings, lowest, standing, link, tries, trials, Ends, ends, wait, Sighted, Among, distinct, filled, Signs, Alike}
+use Rattle.matching.specs.Match.{begins, beginning, live, exact, sightings, standing, link, tries, trials, Ends, ends, wait, Sighted, Among, distinct, filled, Signs, Alike}
 
 -- a list is a beginning exactly when it is empty or some cue is that list and more
 abbrev pub BeginningRead : Type 0

@@ -1,5 +1,5 @@
 -- A listing depends on the events by their sameness alone.
-use Rattle.std.proofs.Common.{◌≡◌, ℕ, Bool, List, [], ◌∷◌, ◌++◌, map, length, take, drop, Some, None, Option, sym, refl, ap, ◌∙◌}
+use Rattle.std.proofs.Common.{◌≡◌, ℕ, Bool, List, [], ◌∷◌, ◌++◌, map, take, drop, Some, None, Option, refl, ap, ◌∙◌}
 use Rattle.std.proofs.lemmas.List.{take-map, drop-map, length-map}
 use Rattle.events.specs.Sameness.{same_lists}
 use Rattle.events.specs.declared.Refusal.{Refusal}

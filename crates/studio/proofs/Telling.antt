@@ -1,9 +1,9 @@
 -- What the definition of showing tells of what is shown.
-use Rattle.std.proofs.Common.{◌≡◌, ℕ, ◌+◌, ◌-◌, ◌<◌, ◌≤◌, min, Bool, true, false, cond, ◌&&◌, eqb, ltb, leb, List, length, get_or, take, drop, Some, None, Option, sym, refl, ap, ◌∙◌, subst, arith}
+use Rattle.std.proofs.Common.{◌≡◌, ℕ, ◌+◌, ◌-◌, ◌<◌, ◌≤◌, min, List, length, take, drop, Some, Option, sym, ap, ◌∙◌, arith}
 use Rattle.std.proofs.lemmas.List.{length-take, length-drop, drop-drop, drop-take, take-take}
-use Rattle.book.specs.Cues.{AllWithin, cue_at, part, part_of, Within}
+use Rattle.book.specs.Cues.{AllWithin, cue_at, part, part_of}
 use Rattle.book.specs.Held.{Held}
-use Rattle.studio.specs.Show.{cue_numbered, InPlace, log_part, of_log, of_material, OfWhole, Part, SameEvents, showing}
+use Rattle.studio.specs.Show.{cue_numbered, InPlace, of_material, OfWhole, Part, SameEvents, showing}
 use Rattle.book.specs.declared.entry.Entry.{Entry}
 
 length_part : {X : Type 0} (place len : ℕ) (xs : List X) → place + len ≤ length xs → length (part place len xs) ≡ len

@@ -1,5 +1,5 @@
 -- Whole lists of offers to a new lane, and the marks that they lead to.
-use Rattle.std.specs.Prelude.{◌≡◌, ℕ, ◌+◌, ◌-◌, ◌<◌, ◌≤◌, Bool, cond, List, [], ◌∷◌, ◌++◌, length, get_or, slice_index_or}
+use Rattle.std.specs.Prelude.{◌≡◌, ℕ, ◌<◌, ◌≤◌, cond, List, [], ◌∷◌, ◌++◌, length, get_or, slice_index_or}
 use Rattle.studio.specs.Lane.{LaneHeld, marked, new_lane, offered, offer_refusal, start_of, unless}
 
 -- An offer of `len` events of which the last is at place `end`.

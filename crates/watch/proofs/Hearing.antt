@@ -1,5 +1,5 @@
 -- What follow lists, in events.
-use Rattle.std.proofs.Common.{◌≡◌, ℕ, suc, ◌+◌, ◌<◌, ◌≤◌, Bool, true, List, [], ◌++◌, map, length, get_or, take, sym, refl, ap, ◌∙◌, subst, arith}
+use Rattle.std.proofs.Common.{◌≡◌, ℕ, suc, ◌<◌, ◌≤◌, Bool, true, List, [], ◌++◌, map, length, get_or, take, sym, ap, ◌∙◌, subst, arith}
 use Rattle.std.proofs.lemmas.List.{get_or-map, length-map, map-append, take-map}
 use Rattle.events.specs.Sameness.{Lawful}
 use Rattle.book.proofs.Adding.{length_part}
@@ -8,11 +8,10 @@ use Rattle.book.specs.Cues.{AllWithin, cue_at, part_of}
 use Rattle.book.specs.Held.{Held, Signed, cue_signs, lookups}
 use Rattle.book.specs.Signs.{sign_of, signs_of}
 use Rattle.matching.specs.Calls.{Account}
-use Rattle.matching.specs.Follow.{entries, followed}
-use Rattle.matching.specs.Match.{Among, Ends, Sighted, filled, sightings}
+use Rattle.matching.specs.Match.{Ends, Sighted, filled}
 use Rattle.matching.proofs.Follow.{entries_read}
 use Rattle.matching.proofs.Sightings.{sightings_read}
-use Rattle.watch.specs.Following.{InEvents, EndsEvents, LoadedEvents}
+use Rattle.watch.specs.Following.{EndsEvents, LoadedEvents}
 
 module _ {E : Type 0} (same : E → E → Bool) (law : Lawful same) (h : Held E) (short : length h.material ≤ 2048) (within : AllWithin (length h.signs) h.cues) (some : filled (cue_signs h) ≡ true) where
   cue_number : length (cue_signs h) ≡ length h.cues

@@ -1,6 +1,6 @@
 -- Writing a list into another from an index on, one by one.
-use Rattle.std.proofs.Common.{◌≡◌, ℕ, ◌+◌, ◌-◌, ◌<◌, ◌≤◌, true, cond, ◌&&◌, leb, List, [], ◌∷◌, ◌++◌, map, length, get_or, take, drop, set, Some, sym, ap, ◌∙◌, subst, append_assoc, arith, length-append, length-take}
-use Rattle.std.proofs.lemmas.List.{drop_more, set_at, take_more, length-take-le, length_push, map_more, length-map}
+use Rattle.std.proofs.Common.{◌≡◌, ℕ, ◌+◌, ◌-◌, ◌<◌, ◌≤◌, true, ◌&&◌, leb, List, [], ◌∷◌, ◌++◌, map, length, get_or, take, drop, set, Some, sym, ap, ◌∙◌, subst, append_assoc, arith, length-append}
+use Rattle.std.proofs.lemmas.List.{drop_more, set_at, length-take-le, map_more, length-map}
 use Rattle.engine.specs.Statements.{ith}
 use Rattle.book.specs.declared.entry.Entry.{Entry}
 use Rattle.matching.specs.Match.{sightings}

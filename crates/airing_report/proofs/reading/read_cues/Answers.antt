@@ -11,26 +11,26 @@ use Rattle.airing_report.proofs.reading.read_cues.Goals as goal
 pub returns-in-Refused : goal.returns-in-Refused
 returns-in-Refused c =
     let cues = c.loop-rest.cues in
-    let split : lines_of c.loop-rest.rest.now ≡ c.split-line.result.0.now ∷ lines_of c.split-line.result.1.now = c.split-line.ensures.lines (search rules) in
+    let split : lines_of c.loop-rest.rest.now ≡ c.split_line.result.0.now ∷ lines_of c.split_line.result.1.now = c.split_line.ensures.lines (search rules) in
     let count = c.count.ensures ∙ sym (length-map (cues_of cues) (map values_of)) in
     sym (read_line_lem (values_in cues) _ _ _ _ (refused c.in-Refused.refusal) split count c.in-Refused.ensures) ∙ c.loop-rest.invariant
 
-pub loop-rest-preserved-in-ok-extend : goal.loop-rest-preserved-in-ok-extend
-loop-rest-preserved-in-ok-extend c =
+pub loop-rest-preserved-in_ok-extend-in-More : goal.loop-rest-preserved-in_ok-extend-in-More
+loop-rest-preserved-in_ok-extend-in-More c =
     let cues = c.loop-rest.cues in
-    let split : lines_of c.loop-rest.rest.now ≡ c.split-line.result.0.now ∷ lines_of c.split-line.result.1.now = c.split-line.ensures.lines (search rules) in
+    let split : lines_of c.loop-rest.rest.now ≡ c.split_line.result.0.now ∷ lines_of c.split_line.result.1.now = c.split_line.ensures.lines (search rules) in
     let count = c.count.ensures ∙ sym (length-map (cues_of cues) (map values_of)) in
-    let grew = ap (map (map values_of)) c.in-ok-extend.ensures ∙ map_behind values_of (cues_of cues) c.in-More.event in
-    ap (λ x. read_cues x (lines_of c.split-line.result.1.now)) grew
+    let grew = ap (map (map values_of)) c.in_ok-extend-in-More.ensures ∙ map_behind values_of (cues_of cues) c.in-More.event in
+    ap (λ x. read_cues x (lines_of c.split_line.result.1.now)) grew
     ∙ (sym (read_line_lem (values_in cues) _ _ _ _ (more (values_of c.in-More.event)) split count c.in-More.ensures) ∙ c.loop-rest.invariant)
 
 pub loop-rest-preserved : goal.loop-rest-preserved
 loop-rest-preserved c =
     let cues = c.loop-rest.cues in
-    let split : lines_of c.loop-rest.rest.now ≡ c.split-line.result.0.now ∷ lines_of c.split-line.result.1.now = c.split-line.ensures.lines (search rules) in
+    let split : lines_of c.loop-rest.rest.now ≡ c.split_line.result.0.now ∷ lines_of c.split_line.result.1.now = c.split_line.ensures.lines (search rules) in
     let count = c.count.ensures ∙ sym (length-map (cues_of cues) (map values_of)) in
-    let grew = ap (map (map values_of)) c.in-ok-begin.ensures ∙ map_begun values_of (cues_of cues) c.in-Next.event in
-    ap (λ x. read_cues x (lines_of c.split-line.result.1.now)) grew
+    let grew = ap (map (map values_of)) c.in_ok-begin-in-Next.ensures ∙ map_begun values_of (cues_of cues) c.in-Next.event in
+    ap (λ x. read_cues x (lines_of c.split_line.result.1.now)) grew
     ∙ (sym (read_line_lem (values_in cues) _ _ _ _ (next (values_of c.in-Next.event)) split count c.in-Next.ensures) ∙ c.loop-rest.invariant)
 
 pub returns : goal.returns

@@ -11,8 +11,8 @@ use Rattle.airing_report.proofs.reading.read_log.Goals as goal
 pub loop-rest-preserved : goal.loop-rest-preserved
 loop-rest-preserved c =
     let text = c.loop-rest.text in
-    let split : lines_of c.loop-rest.rest.now ≡ c.split-line.result.0.now ∷ lines_of c.split-line.result.1.now = c.split-line.ensures.lines (search rules) in
-    let items = chosen _ _ _ _ c.push.ensures.items (ap is_ok c.in-ok-push.was) in
+    let split : lines_of c.loop-rest.rest.now ≡ c.split_line.result.0.now ∷ lines_of c.split_line.result.1.now = c.split_line.ensures.lines (search rules) in
+    let items = chosen _ _ _ _ c.push.ensures.items (ap is_ok c.in_ok-push-in-Ok.was) in
     let grew = ap (map values_of) items ∙ map_push values_of (vec_items text) c.in-Ok.event in
     let step = log_on (map values_of (vec_items text)) _ (values_of c.in-Ok.event) _ _ _ split c.in-Ok.ensures grew in
     (step.0 ∙ c.loop-rest.invariant.0, step.1 ∙ c.loop-rest.invariant.1)

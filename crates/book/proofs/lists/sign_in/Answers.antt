@@ -1,5 +1,5 @@
 use Rattle.std.proofs.Common.{arith}
-use Rattle.book.proofs.Reading.{first_place_more, first_place_all}
+use Rattle.book.proofs.Reading.{first_place_more}
 use Rattle.book.proofs.lists.sign_in.Goals as goal
 
 pub returns-then-same : goal.returns-then-same

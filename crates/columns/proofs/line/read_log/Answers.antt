@@ -4,8 +4,8 @@ use Rattle.columns.proofs.line.read_log.Goals as goal
 
 pub returns-then-column-gt0 : goal.returns-then-column-gt0
 unfolding read_log
-returns-then-column-gt0 c = read_bad _ _ _ c.bad-log-column-column.ensures c.if-column-gt0.true
+returns-then-column-gt0 c = read_bad _ _ _ c.bad_log_column-column.ensures c.if-column-gt0.true
 
 pub returns : goal.returns
 unfolding read_log
-returns c = read_good _ _ _ c.bad-log-column-column.ensures c.if-column-gt0.false
+returns c = read_good _ _ _ c.bad_log_column-column.ensures c.if-column-gt0.false

@@ -2,8 +2,8 @@ use Rattle.std.proofs.Common.{arith}
 use Rattle.columns.proofs.Splits.{first_front, first_le, first_some, lines_split}
 use Rattle.columns.proofs.line.split_line.Goals as goal
 
-pub split-at-requires : goal.split-at-requires
-split-at-requires c = omega (arith, first_le c.args.input.now)
+pub split_at-requires : goal.split_at-requires
+split_at-requires c = omega (arith, first_le c.args.input.now)
 
 pub returns : goal.returns
 returns c =

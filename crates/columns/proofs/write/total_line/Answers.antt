@@ -4,10 +4,10 @@ use Rattle.columns.specs.Written.{total_line}
 use Rattle.columns.proofs.Placing.{pair_placed}
 use Rattle.columns.proofs.write.total_line.Goals as goal
 
-pub slice-bounds-line-end-2 : goal.slice-bounds-line-end-2
-slice-bounds-line-end-2 c = search (rules, places)
+pub slice_bounds-line-end-2 : goal.slice_bounds-line-end-2
+slice_bounds-line-end-2 c = search (rules, places)
 
 pub returns : goal.returns
 unfolding total_line
 returns c =
-    pair_placed 7 7 8 c.args.events c.args.sightings (10 ∷ []) _ c.write-number.new.field _ refl c.write-number.ensures refl c.write-number-2.ensures
+    pair_placed 7 7 8 c.args.events c.args.sightings (10 ∷ []) _ c.write_number.new.field _ refl c.write_number.ensures refl c.write_number-2.ensures

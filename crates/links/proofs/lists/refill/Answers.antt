@@ -7,8 +7,8 @@ loop-x-preserved g c =
     let one = take_more c.args.from.now c.loop-x.x-index c.x-item.result c.loop-x-test.true in
     let was = c.loop-x.invariant.0 in
     let is = c.x-item.is in
-    let items = c.push-reserved.ensures.items in
-    (cc, c.push-reserved.ensures.capacity ∙ c.loop-x.invariant.1)
+    let items = c.push_reserved.ensures.items in
+    (cc, c.push_reserved.ensures.capacity ∙ c.loop-x.invariant.1)
 
 pub returns : goal.returns
 returns g c =

@@ -5,4 +5,4 @@ use Rattle.note_report.proofs.notes.write_report.Goals as goal
 
 pub returns : goal.returns
 returns c =
-    read_out c.args.input.now (vec_items c.in-ok-out-2.out) (contents_of c.in-ok-script.script) (grind (arith, c.if-is-long.ensures)) c.in-ok-script.ensures c.in-ok-out-2.ensures.value
+    read_out c.args.input.now (vec_items c.in_ok-out-2.out) (contents_of c.in_ok-script.script) (grind (arith, c.if-is_long.ensures)) c.in_ok-script.ensures c.in_ok-out-2.ensures.value

@@ -8,11 +8,11 @@ pub loop-b-preserved : goal.loop-b-preserved
 loop-b-preserved c before e =
     let bytes = c.args.bytes.now in
     let i = c.loop-b.b-index in
-    c.in-ok-extend.ensures ∙ (ap (λ cs. behind_last cs (get_or (others bytes) i 0)) (c.loop-b.invariant before e) ∙ cue_more before bytes i c.loop-b-test.true)
+    c.in_ok-extend.ensures ∙ (ap (λ cs. behind_last cs (get_or (others bytes) i 0)) (c.loop-b.invariant before e) ∙ cue_more before bytes i c.loop-b-test.true)
 
 pub returns : goal.returns
 returns c =
     let bytes = c.args.bytes.now in
     let before = cues_of c.args.cues.now in
-    let begun = c.in-ok-begin.ensures ∙ ap (λ t. before ++ t ∷ []) (sym (take_more bytes 0 0 c.requires)) in
+    let begun = c.in_ok-begin.ensures ∙ ap (λ t. before ++ t ∷ []) (sym (take_more bytes 0 0 c.requires)) in
     c.loop-b.invariant before begun ∙ ap (λ t. before ++ t ∷ []) (others_all bytes c.loop-b.b-index c.loop-b-test.false)

@@ -7,8 +7,8 @@ use Rattle.script.specs.Booking.{held_with, size}
 use Rattle.watch.proofs.Answered.{answer_ok, answer_err}
 use Rattle.report.proofs.booking.book_cues.Goals as goal
 
-pub overflow-add-end : goal.overflow-add-end
-overflow-add-end g c =
+pub overflow_add-end : goal.overflow_add-end
+overflow_add-end g c =
     let lens = c.args.lens.now in
     let more = sum_by_more (λ x. x) lens c.loop-i.i 0 c.loop-i-test.true in
     let most = sum_by-take-le (λ x. x) lens (c.loop-i.i + 1) in
@@ -37,8 +37,8 @@ returns-in-Err g c cues e begun =
     let at : c.loop-i.place ≡ size (take i cues) = c.loop-i.invariant.0 ∙ place_is same layout cues i lens e in
     let rule = so_far_refusal same layout cues i (draft_held d) s d.bounded l.0 c.loop-i.place (get_or lens i 0) at l.1 in
     let why = answer_err (add_refused same (draft_held d) c.loop-i.place (get_or lens i 0)) _ c.in-Err.refusal (c.in-Err.ensures.same (signed-so-far same cues (take i cues) (draft_held d) s.held)) in
-    so_far_stop same layout cues i (draft_held d) (draft_held c.add.new.self) s l.0 c.in-Err.refusal c.lines-of.result (sym rule ∙ why)
-    (lines_are layout (take i cues ++ get_or cues i [] ∷ []) (i + 1) (c.loop-i.place + get_or lens i 0) c.lines-of.result (count_is same layout cues i l.0) (size_is same layout cues i c.loop-i.place (get_or lens i 0) at l.1) c.lines-of.ensures)
+    so_far_stop same layout cues i (draft_held d) (draft_held c.add.new.self) s l.0 c.in-Err.refusal c.lines_of.result (sym rule ∙ why)
+    (lines_are layout (take i cues ++ get_or cues i [] ∷ []) (i + 1) (c.loop-i.place + get_or lens i 0) c.lines_of.result (count_is same layout cues i l.0) (size_is same layout cues i c.loop-i.place (get_or lens i 0) at l.1) c.lines_of.ensures)
 
 pub loop-i-preserved : goal.loop-i-preserved
 loop-i-preserved g c =

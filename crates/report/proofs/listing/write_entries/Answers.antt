@@ -9,8 +9,8 @@ loop-entry-preserved c =
     let es = c.args.entries.now in
     let i = c.loop-entry.entry-index in
     let e = get_or es i (record { place = 0; cue = 0; len = 0 }) in
-    let items = c.in-ok-extend-from-slice.ensures.items in
-    let line : c.entry-line-line.result ≡ entry_text e = (let a = c.from.ensures in let b = c.from-in-loop-entry.ensures in let d = c.from-in-loop-entry-2.ensures in let l = c.entry-line-line.ensures in cc) in
+    let items = c.in_ok-extend_from_slice.ensures.items in
+    let line : c.entry_line-line.result ≡ entry_text e = (let a = c.from.ensures in let b = c.from-in-loop-entry.ensures in let d = c.from-in-loop-entry-2.ensures in let l = c.entry_line-line.ensures in cc) in
     let more = take_more es i (record { place = 0; cue = 0; len = 0 }) c.loop-entry-test.true in
     items ∙ (ap (λ l. vec_items c.loop-entry.out ++ l) line ∙ (ap (λ o. o ++ entry_text e) c.loop-entry.invariant ∙
     (flat_map_more entry_text (vec_items c.args.out.now) (take i es) e ∙ ap (λ xs. vec_items c.args.out.now ++ flat_map entry_text xs) (sym more))))

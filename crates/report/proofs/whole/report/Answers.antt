@@ -6,4 +6,4 @@ use Rattle.report.proofs.whole.report.Goals as goal
 pub returns : goal.returns
 returns g c =
     let law : Lawful g.E.Event.same = record { reflexive = g.met.E.Event.reflexive; symmetric = g.met.E.Event.symmetric; transitive = g.met.E.Event.transitive } in
-    record { value = c.write-report.ensures; once = reported_once g.E.Event.same law c.args.layout (contents_of c.args.script) }
+    record { value = c.write_report.ensures; once = reported_once g.E.Event.same law c.args.layout (contents_of c.args.script) }

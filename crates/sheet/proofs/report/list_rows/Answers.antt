@@ -7,7 +7,7 @@ use Rattle.sheet.specs.Report.{last_line, listing, same_values, sheet_listing}
 use Rattle.sheet.specs.Rows.{cues_from, sheet_of}
 use Rattle.sheet.proofs.Values.{listing_map}
 use Rattle.sheet.proofs.report.list_rows.Goals as goal
-use Rattle.sheet.proofs.report.list_rows.Goals.{then-all+in-ok-write-last, else-all}
+use Rattle.sheet.proofs.report.list_rows.Goals.{then-all+in_ok-write_last, else-all}
 use Rattle.sheet.specs.declared.rows.Rows.{Rows}
 
 -- The listing by the events of the draft is that by the values read.
@@ -24,15 +24,15 @@ from_start r out h starts n none held from lines = let v = by_values r in cc
 
 -- What list_cues wrote, and the last line where all cues were added.
 reached : (c : goal.After-drop-starts-2) →
-    vec_items c.list-cues.new.out ++ cond c.in-ok-all.all (last_line (draft_held c.list-cues.new.draft) c.len-lines.result c.args.rows.stop) [] ≡
+    vec_items c.list_cues.new.out ++ cond c.in_ok-all.all (last_line (draft_held c.list_cues.new.draft) c.len-lines.result c.args.rows.stop) [] ≡
     sheet_listing (sheet_of c.args.rows)
 reached c =
-    c.in-ok-all.ensures c.args.rows.stop ∙ from_start c.args.rows _ _ _ _ c.new-out.ensures.items c.in-ok-draft.ensures c.as-slice.ensures.value (c.len-lines.ensures ∙ c.args.rows.events.ok.0)
+    c.in_ok-all.ensures c.args.rows.stop ∙ from_start c.args.rows _ _ _ _ c.new-out.ensures.items c.in_ok-draft.ensures c.as_slice.ensures.value (c.len-lines.ensures ∙ c.args.rows.events.ok.0)
 
 pub returns : goal.returns
 returns c =
     let told = reached c in
     elim c.if-all.branch [
-      | then-all+in-ok-write-last w ↦ let t = w.in-ok-write-last.ensures in ap vec_items w.out-is ∙ (t ∙ (ap (λ b. vec_items c.list-cues.new.out ++ cond b (last_line (draft_held c.list-cues.new.draft) c.len-lines.result c.args.rows.stop) []) (sym w.if-all.true) ∙ told))
-      | else-all w ↦ ap vec_items w.out-is ∙ (sym (append-nil (vec_items c.list-cues.new.out)) ∙ (ap (λ b. vec_items c.list-cues.new.out ++ cond b (last_line (draft_held c.list-cues.new.draft) c.len-lines.result c.args.rows.stop) []) (sym w.if-all.false) ∙ told))
+      | then-all+in_ok-write_last w ↦ let t = w.in_ok-write_last.ensures in ap vec_items w.out-is ∙ (t ∙ (ap (λ b. vec_items c.list_cues.new.out ++ cond b (last_line (draft_held c.list_cues.new.draft) c.len-lines.result c.args.rows.stop) []) (sym w.if-all.true) ∙ told))
+      | else-all w ↦ ap vec_items w.out-is ∙ (sym (append-nil (vec_items c.list_cues.new.out)) ∙ (ap (λ b. vec_items c.list_cues.new.out ++ cond b (last_line (draft_held c.list_cues.new.draft) c.len-lines.result c.args.rows.stop) []) (sym w.if-all.false) ∙ told))
     ]

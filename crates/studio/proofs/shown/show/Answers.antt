@@ -2,7 +2,7 @@ use Rattle.std.proofs.Common.{◌≡◌, ℕ, ◌+◌, ◌-◌, List, length, So
 use Rattle.book.specs.Cues.{AllWithin}
 use Rattle.book.specs.Held.{book_held}
 use Rattle.book.specs.declared.draft.Book.{Book}
-use Rattle.studio.specs.Show.{log_part, of_log, of_material, Part, showing}
+use Rattle.studio.specs.Show.{log_part, of_log, of_material, showing}
 use Rattle.studio.proofs.Telling.{in_place, of_whole, part_to, same_events}
 use Rattle.studio.proofs.shown.show.Goals as goal
 

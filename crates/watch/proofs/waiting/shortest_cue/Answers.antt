@@ -9,7 +9,7 @@ pub loop-c-preserved : goal.loop-c-preserved
 loop-c-preserved g c =
     let cues = cue_signs (book_held c.args.book.now) in
     let long = cues_long c.args.book.now c.cues-c-end.result.now c.cues-c-end.ensures in
-    let least : c.min-least.result ≡ min c.loop-c.least (length (get_or cues c.loop-c.c [])) = c.min-least.ensures ∙ ap (λ xs. min c.loop-c.least (length xs)) c.cue-signs.ensures in
+    let least : c.min-least.result ≡ min c.loop-c.least (length (get_or cues c.loop-c.c [])) = c.min-least.ensures ∙ ap (λ xs. min c.loop-c.least (length xs)) c.cue_signs.ensures in
     ap (λ m. shortest m (drop (c.loop-c.c + 1) cues)) least ∙ (sym (shortest_more c.loop-c.least cues c.loop-c.c (omega (arith, c.loop-c-test.true, long))) ∙ c.loop-c.invariant)
 
 pub returns : goal.returns

@@ -3,10 +3,10 @@ use Rattle.bits_theory.proofs.Reach.{reach_zero}
 use Rattle.bits_theory.proofs.Adding.{still}
 use Rattle.bits.proofs.shift_and.BitEngine.forget.Goals as goal
 
-pub invariant-of-self : goal.invariant-of-self
-invariant-of-self c =
+pub invariant_of-self : goal.invariant_of-self
+invariant_of-self c =
     let e = c.args.self.now in
-    (e.room, (e.few, (e.spanned, (e.starts, (e.free, (e.stops, (e.apart, (still e.masks.signs.items e.spans.items e.spanned, tt))))))))
+    record { room = e.room; few = e.few; spanned = e.spanned; starts = e.starts; free = e.free; stops = e.stops; apart = e.apart; exact = still e.masks.signs.items e.spans.items e.spanned }
 
 pub returns : goal.returns
 returns c =

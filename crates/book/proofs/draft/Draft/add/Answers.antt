@@ -10,36 +10,12 @@ use Rattle.book.proofs.Tells.{has_same_signs}
 use Rattle.book.proofs.draft.Draft.add.Given.{Over}
 use Rattle.book.proofs.draft.Draft.add.Goals as goal
 
-pub invariant-of-self : goal.invariant-of-self
-invariant-of-self g c =
+pub invariant_of-self : goal.invariant_of-self
+invariant_of-self g c =
     let d = c.args.self.now in
     let new = cue_at c.args.place c.args.len in
-    let items = c.push-reserved.ensures.items in
-    let ok = granted (length (vec_items d.material)) (vec_items d.cues) (listed (cue_signs (draft_held d)) (part_of (vec_items d.signs) new)) c.args.place c.args.len (sym c.in-None.ensures) in (
-      d.short,
-      (
-        d.signed,
-        (
-          d.small,
-          (
-            search rules,
-            (
-              search rules,
-              (
-                subst (AllWithin (vec_len d.material)) (sym items) (within_push _ _ _ d.within (rw d.material.ok.0 ok.within)),
-                (
-                  subst (λ xs. total xs ≤ 1024) (sym items) (omega (arith, total_push (vec_items d.cues) new, ok.bounded)),
-                  (
-                    ap (λ xs. distinct (parts_of (vec_items d.signs) xs)) items ∙ (ap distinct (map_push (part_of (vec_items d.signs)) (vec_items d.cues) new) ∙ distinct_push (cue_signs (draft_held d)) (part_of (vec_items d.signs) new) d.apart ok.apart),
-                    tt,
-                  ),
-                ),
-              ),
-            ),
-          ),
-        ),
-      ),
-    )
+    let items = c.push_reserved.ensures.items in
+    let ok = granted (length (vec_items d.material)) (vec_items d.cues) (listed (cue_signs (draft_held d)) (part_of (vec_items d.signs) new)) c.args.place c.args.len (sym c.in-None.ensures) in record { short = d.short; signed = d.signed; small = d.small; room = search rules; few = search rules; within = subst (AllWithin (vec_len d.material)) (sym items) (within_push _ _ _ d.within (rw d.material.ok.0 ok.within)); bounded = subst (λ xs. total xs ≤ 1024) (sym items) (omega (arith, total_push (vec_items d.cues) new, ok.bounded)); apart = ap (λ xs. distinct (parts_of (vec_items d.signs) xs)) items ∙ (ap distinct (map_push (part_of (vec_items d.signs)) (vec_items d.cues) new) ∙ distinct_push (cue_signs (draft_held d)) (part_of (vec_items d.signs) new) d.apart ok.apart) }
 
 -- The answer by events is the answer by signs.
 same_answer : (g : Over) (d : Draft g.row.E.Denot) (place len : ℕ) {r : Result ℕ Refusal} →
@@ -69,5 +45,5 @@ returns-in-None g c =
     record {
       value = value;
       same = same_answer g d c.args.place c.args.len value;
-      cues = ap (λ xs. record { material = h.material; signs = h.signs; cues = xs }) c.push-reserved.ensures.items;
+      cues = ap (λ xs. record { material = h.material; signs = h.signs; cues = xs }) c.push_reserved.ensures.items;
     }

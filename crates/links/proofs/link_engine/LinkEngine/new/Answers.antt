@@ -3,8 +3,8 @@ use Rattle.links_theory.proofs.Paths.{path_root}
 use Rattle.links.specs.Tables.{cues_in}
 use Rattle.links.proofs.link_engine.LinkEngine.new.Goals as goal
 
-pub invariant-of-result : goal.invariant-of-result
-invariant-of-result c = let told = c.rebuild.ensures in (∣ told.ready ∣₁, (told.within, (told.room, tt)))
+pub invariant_of-result : goal.invariant_of-result
+invariant_of-result c = let told = c.rebuild.ensures in record { ready = ∣ told.ready ∣₁; within = told.within; room = told.room }
 
 pub returns : goal.returns
 returns c =

@@ -25,8 +25,8 @@ loop-i-init c =
     let t = c.args.self.now in
     (c.requires.ready.sound.some, path_root (cues_in t) (vec_items t.nodes) (vec_items t.heads) c.requires.ready.sound)
 
-pub overflow-add-place : goal.overflow-add-place
-overflow-add-place c =
+pub overflow_add-place : goal.overflow_add-place
+overflow_add-place c =
     let t = c.args.self.now in
     let s = inside t c.args.number c.loop-i.i c.index.result.now c.requires.within c.requires.number c.index.ensures (omega (arith, c.requires.len, c.loop-i-test.true)) in
     let bound : c.index.result.now.place + c.loop-i.i < vec_len t.signs = omega (arith, s.0, t.signs.ok.0) in

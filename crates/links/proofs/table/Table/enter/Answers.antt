@@ -1,4 +1,4 @@
-use Rattle.std.proofs.Common.{◌≡◌, ℕ, suc, ◌+◌, ◌<◌, ◌≤◌, List, [], ◌∷◌, ◌++◌, length, get_or, take, set, vec_items, sym, refl, ap, ◌∙◌, subst, arith, rules}
+use Rattle.std.proofs.Common.{◌≡◌, ℕ, suc, ◌+◌, ◌<◌, ◌≤◌, List, [], ◌∷◌, ◌++◌, length, get_or, take, vec_items, sym, refl, ap, ◌∙◌, subst, arith, rules}
 use Rattle.std.proofs.lemmas.List.{get_or_read, length_push}
 use Rattle.links_theory.specs.declared.Node.{Node}
 use Rattle.links_theory.specs.Entries.{new_node, slot_of, path, Found}
@@ -38,8 +38,8 @@ returns-then-child-ne0 c =
       kept = kept_same t;
     }
 
-pub link-from-link-requires : goal.link-from-link-requires
-link-from-link-requires c =
+pub link_from-link-requires : goal.link_from-link-requires
+link_from-link-requires c =
     let t = c.args.self.now in
     let b = c.requires.building in
     let w = parent_within (cues_in t) (vec_items t.nodes) (vec_items t.heads) (vec_items t.places) c.args.k c.args.number b.growing c.requires.number c.requires.longer (short t c.args.k c.args.number b) c.index-parent.result.now c.args.sign (place_read t c.args.k c.args.number c.index-parent.result.now b c.requires.number c.index-parent.ensures) c.requires.sign in
@@ -50,22 +50,22 @@ link-from-link-requires c =
       full = complete_less (cues_in t) (vec_items t.nodes) _ c.args.k (omega (arith, n)) b.growing.complete;
     }
 
-pub overflow-cast-number : goal.overflow-cast-number
-overflow-cast-number c =
+pub overflow_cast-number : goal.overflow_cast-number
+overflow_cast-number c =
     let t = c.args.self.now in
     let b = c.requires.building in
     let small : c.args.number < 128 = omega (arith, c.requires.number, b.numbers, cues_length (vec_items t.signs) (vec_items t.cues)) in
     search rules
 
-pub overflow-cast-k : goal.overflow-cast-k
-overflow-cast-k c =
+pub overflow_cast-k : goal.overflow_cast-k
+overflow_cast-k c =
     let t = c.args.self.now in
     let b = c.requires.building in
     let small : c.args.k < 32 = omega (arith, c.requires.longer, short t c.args.k c.args.number b) in
     search rules
 
-pub overflow-add-k : goal.overflow-add-k
-overflow-add-k c =
+pub overflow_add-k : goal.overflow_add-k
+overflow_add-k c =
     let t = c.args.self.now in
     let b = c.requires.building in
     let small : c.args.k < 32 = omega (arith, c.requires.longer, short t c.args.k c.args.number b) in
@@ -78,8 +78,8 @@ add-at-requires c =
     let few = roomy t c.args.k c.args.number b c.requires.number c.requires.longer in
     record { room = omega (arith, few, b.room, t.nodes.ok.0); few = omega (arith, few, t.nodes.ok.0); heads = b.growing.sound.heads_long }
 
-pub set-link-requires : goal.set-link-requires
-set-link-requires c =
+pub set_link-requires : goal.set_link-requires
+set_link-requires c =
     let t = c.args.self.now in
     let u = c.add-at.new.self in
     omega (arith, c.add-at.ensures.value, pushed (vec_items t.nodes) (vec_items u.nodes) (new_node c.index-parent.result.now c.args.sign (get_or (vec_items t.heads) (slot_of c.index-parent.result.now c.args.sign) 0) 0 c.args.number (c.args.k + 1)) c.add-at.ensures.nodes, u.nodes.ok.0)
@@ -89,16 +89,16 @@ returns c =
     let t = c.args.self.now in
     let b = c.requires.building in
     let u = c.add-at.new.self in
-    let v = c.set-link.new.self in
+    let v = c.set_link.new.self in
     let told = c.add-at.ensures in
-    let set = c.set-link.ensures in
+    let set = c.set_link.ensures in
     let kept = kept_more t u v told.kept set.kept in
     let f : Found (vec_items t.nodes) c.index-parent.result.now c.args.sign 0 = subst (Found (vec_items t.nodes) c.index-parent.result.now c.args.sign) c.if-child-ne0.false c.child-child.ensures in
-    let to = c.link-from-link.result in
-    let w : to < length (vec_items t.nodes) = omega (arith, c.link-from-link.ensures.within, t.nodes.ok.0) in
+    let to = c.link_from-link.result in
+    let w : to < length (vec_items t.nodes) = omega (arith, c.link_from-link.ensures.within, t.nodes.ok.0) in
     let nodes = link_last (vec_items t.nodes) (vec_items u.nodes) (vec_items v.nodes) _ c.add-at.result to told.nodes told.value set.nodes in
-    let g = growing_more (cues_in t) (vec_items t.nodes) (vec_items t.heads) (vec_items t.places) c.args.k c.args.number b.growing c.requires.number c.requires.longer (short t c.args.k c.args.number b) c.index-parent.result.now c.args.sign (place_read t c.args.k c.args.number c.index-parent.result.now b c.requires.number c.index-parent.ensures) c.requires.sign f to w c.link-from-link.ensures.link in
-    let last = made_last (cues_in t) (vec_items t.nodes) (vec_items t.heads) (vec_items t.places) c.args.k c.args.number b.growing c.requires.number c.requires.longer (short t c.args.k c.args.number b) c.index-parent.result.now c.args.sign (place_read t c.args.k c.args.number c.index-parent.result.now b c.requires.number c.index-parent.ensures) c.requires.sign f to w c.link-from-link.ensures.link in
+    let g = growing_more (cues_in t) (vec_items t.nodes) (vec_items t.heads) (vec_items t.places) c.args.k c.args.number b.growing c.requires.number c.requires.longer (short t c.args.k c.args.number b) c.index-parent.result.now c.args.sign (place_read t c.args.k c.args.number c.index-parent.result.now b c.requires.number c.index-parent.ensures) c.requires.sign f to w c.link_from-link.ensures.link in
+    let last = made_last (cues_in t) (vec_items t.nodes) (vec_items t.heads) (vec_items t.places) c.args.k c.args.number b.growing c.requires.number c.requires.longer (short t c.args.k c.args.number b) c.index-parent.result.now c.args.sign (place_read t c.args.k c.args.number c.index-parent.result.now b c.requires.number c.index-parent.ensures) c.requires.sign f to w c.link_from-link.ensures.link in
     let long = pushed _ _ _ nodes in
     let cues = kept_cues t v kept in
     let heads = ap vec_items set.heads ∙ told.heads in

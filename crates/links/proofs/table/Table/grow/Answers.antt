@@ -34,8 +34,8 @@ enter-at-requires c =
           get_or_read (vec_items t.signs) (cue.place + c.args.k) c.index-sign.result.now (omega (arith, w.2, ap (λ x. x.place) is, ap (λ x. x.len) is, c.if-k-cue.true)) c.index-sign.ensures 0 ∙ ap (λ x. get_or (vec_items t.signs) (x.place + c.args.k) 0) is ∙ sym (cue_sign (vec_items t.signs) (vec_items t.cues) c.args.number c.args.k cue in' (omega (arith, ap (λ x. x.len) is, c.if-k-cue.true)));
     }
 
-pub index-mut-requires : goal.index-mut-requires
-index-mut-requires c =
+pub index_mut-requires : goal.index_mut-requires
+index_mut-requires c =
     let t = c.args.self.now in
     let same = ap vec_len c.enter-at.ensures.places in
     omega (arith, same, t.places.ok.0, c.requires.building.growing.spots, numbered t c.args.number c.requires.number, cues_length (vec_items t.signs) (vec_items t.cues))

@@ -38,8 +38,8 @@ index-requires c =
     let b = built t c.fill.new.list u c.requires.building k in
     omega (arith, b.growing.spots, counted t u c.loop-number.number k.cues (omega (arith, c.loop-number-test.true, c.len-count.ensures)), u.places.ok.0)
 
-pub index-mut-requires : goal.index-mut-requires
-index-mut-requires c =
+pub index_mut-requires : goal.index_mut-requires
+index_mut-requires c =
     let t = c.args.self.now in
     let u = c.loop-number.self in
     let k = c.loop-number.invariant.1 in

@@ -5,8 +5,8 @@ use Rattle.links_theory.proofs.Walks.{Walking, link_path, walking_hit, walking_e
 use Rattle.links.specs.Tables.{cues_in}
 use Rattle.links.proofs.table.Table.walk.Goals as goal
 
-pub overflow-add-trials : goal.overflow-add-trials
-overflow-add-trials c =
+pub overflow_add-trials : goal.overflow_add-trials
+overflow_add-trials c =
     let t = c.args.self.now in
     let short = len_short (cues_in t) (vec_items t.nodes) (vec_items t.heads) c.requires.sound c.args.from (omega (arith, c.requires.within, t.nodes.ok.0)) in
     let h = c.loop-from.invariant.falls in

@@ -4,17 +4,17 @@ use Rattle.script.specs.Listed.{split}
 use Rattle.script.proofs.Splitting.{split_append}
 use Rattle.script.proofs.cues.Cues.begin.Goals as goal
 
-pub invariant-of-self-2 : goal.invariant-of-self-2
-invariant-of-self-2 g c =
+pub invariant_of-self-2 : goal.invariant_of-self-2
+invariant_of-self-2 g c =
     let d = c.args.self.now in
-    let items = c.push-reserved.ensures.items ∙ ap (λ xs. xs ++ 1 ∷ []) c.reserve.ensures.items in
-    let long = c.in-ok-push.ensures.len in
-    (ap sum items ∙ (sum_by_push (λ x. x) (vec_items d.lens) 1 ∙ (ap (λ n. n + 1) d.whole ∙ sym long)), tt)
+    let items = c.push_reserved.ensures.items ∙ ap (λ xs. xs ++ 1 ∷ []) c.reserve.ensures.items in
+    let long = c.in_ok-push.ensures.len in
+    record { whole = ap sum items ∙ (sum_by_push (λ x. x) (vec_items d.lens) 1 ∙ (ap (λ n. n + 1) d.whole ∙ sym long)) }
 
 pub returns : goal.returns
 returns g c =
     let d = c.args.self.now in
-    let items = c.push-reserved.ensures.items ∙ ap (λ xs. xs ++ 1 ∷ []) c.reserve.ensures.items in
-    let events = c.in-ok-push.ensures.items in
+    let items = c.push_reserved.ensures.items ∙ ap (λ xs. xs ++ 1 ∷ []) c.reserve.ensures.items in
+    let events = c.in_ok-push.ensures.items in
     ap (λ ns. split ns (vec_items c.push.new.self)) items ∙
     (ap (split (vec_items d.lens ++ 1 ∷ [])) events ∙ split_append (vec_items d.lens) (1 ∷ []) (vec_items d.events) (c.args.event ∷ []) (d.whole ∙ d.events.ok.0))

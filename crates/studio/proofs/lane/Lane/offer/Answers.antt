@@ -1,4 +1,4 @@
-use Rattle.std.proofs.Common.{arith, rules}
+use Rattle.std.proofs.Common.{rules}
 use Rattle.studio.proofs.Marks.{marks_apart}
 use Rattle.studio.proofs.lane.Lane.offer.Goals as goal
 

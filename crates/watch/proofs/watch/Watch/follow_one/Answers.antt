@@ -20,6 +20,6 @@ returns g c =
       live = went;
       cost = c.step.ensures.cost;
       len = refl;
-      bound = c.write-sightings.ensures.bound;
-      wrote = wrote_same (m.cues v) (m.cues w) text (m.live w) c.args.self.now.len c.args.entries.now _ c.args.from _ seen c.write-sightings.ensures.wrote;
+      bound = c.write_sightings.ensures.bound;
+      wrote = wrote_same (m.cues v) (m.cues w) text (m.live w) c.args.self.now.len c.args.entries.now _ c.args.from _ seen c.write_sightings.ensures.wrote;
     }

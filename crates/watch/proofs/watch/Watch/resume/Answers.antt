@@ -1,4 +1,4 @@
-use Rattle.std.proofs.Common.{◌≡◌, Ok, Err, sym, refl, ap, ◌∙◌}
+use Rattle.std.proofs.Common.{refl, ap, ◌∙◌}
 use Rattle.book.specs.Cues.{answer}
 use Rattle.engine.specs.Statements.{resume_refusal}
 use Rattle.watch.proofs.Answered.{answer_ok, answer_err}

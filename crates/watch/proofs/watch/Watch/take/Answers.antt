@@ -1,5 +1,5 @@
 use Rattle.std.proofs.Common.{refl, arith, rules}
-use Rattle.watch.proofs.Runs.{taken, not_taken}
+use Rattle.watch.proofs.Runs.{taken}
 use Rattle.watch.proofs.watch.Watch.take.Goals as goal
 
 pub returns : goal.returns

@@ -1,4 +1,4 @@
-use Rattle.std.proofs.Common.{◌≡◌, ◌+◌, ◌<◌, ◌≤◌, cond, ltb, [], ◌∷◌, ◌++◌, length, get_or, take, Some, None, sym, refl, ap, ◌∙◌, ap₂, arith}
+use Rattle.std.proofs.Common.{◌+◌, ◌<◌, ◌≤◌, cond, [], ◌∷◌, ◌++◌, length, Some, None, sym, refl, ap, ◌∙◌, ap₂, arith}
 use Rattle.book.specs.Cues.{answer, part_of, parts_of}
 use Rattle.events.specs.declared.Refusal.TheVariants.{OverCapacity}
 use Rattle.matching.specs.Calls.{total}
@@ -16,7 +16,7 @@ lay-requires g c =
     let cues = parts_of b.signs.items b.cues.items in
     let n = c.loop-number.number in
     let inv = c.loop-number.invariant in
-    let told = c.cue-signs.ensures in
+    let told = c.cue_signs.ensures in
     let there : n < length b.cues.items = omega (arith, ap length c.cues-number-end.ensures) in
     let h : n < length cues = omega (arith, length-map b.cues.items (part_of b.signs.items)) in
     record {
@@ -32,7 +32,7 @@ loop-number-preserved g c =
     let cues = parts_of b.signs.items b.cues.items in
     let n = c.loop-number.number in
     let inv = c.loop-number.invariant in
-    let told = c.cue-signs.ensures in
+    let told = c.cue_signs.ensures in
     let laid = c.lay.ensures in
     let there : n < length b.cues.items = omega (arith, ap length c.cues-number-end.ensures) in
     let h : n < length cues = omega (arith, length-map b.cues.items (part_of b.signs.items)) in (

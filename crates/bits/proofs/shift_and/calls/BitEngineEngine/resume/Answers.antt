@@ -3,7 +3,7 @@ use Rattle.book.specs.Cues.{answer, cue_at, part_of, parts_of}
 use Rattle.book.specs.declared.cue.Cue.{Cue}
 use Rattle.matching.specs.Match.{live}
 use Rattle.std.proofs.lemmas.List.{get_or_read, length-map}
-use Rattle.bits_theory.specs.Laid.{span_at, reach}
+use Rattle.bits_theory.specs.Laid.{span_at}
 use Rattle.bits_theory.proofs.Loops.{resume_more}
 use Rattle.bits_theory.proofs.Reach.{length_part, part_at}
 use Rattle.bits_theory.proofs.Resuming.{Other, no_such, behind, granted}
@@ -32,8 +32,8 @@ returns-then-len-c c =
     let h = behind cues s.0 s.1 not (omega (arith, length-map spans (part_of signs))) (omega (arith, ap length (part_at signs spans s.0 lt), length_part signs (span_at spans s.0) (e.spanned s.0 lt).1, ap (λ (v : Cue). v.len) at, c.if-len-c.true, c.from-len.ensures)) in
     record { value = ap (λ o. answer o tt) (sym h); held = refl }
 
-pub overflow-add-c : goal.overflow-add-c
-overflow-add-c c =
+pub overflow_add-c : goal.overflow_add-c
+overflow_add-c c =
     let l = c.loop-k.self in
     let spans = c.args.self.now.spans.items in
     let n = c.from-number.result in

@@ -9,8 +9,8 @@ use Rattle.links.proofs.link_engine.calls.LinkEngineEngine.load.Goals as goal
 read : (all : List (List ℕ)) (xs signs : List ℕ) (ys cues : List Cue) → all ≡ parts_of xs ys → xs ≡ signs → ys ≡ cues → all ≡ parts_of signs cues
 read all xs signs ys cues e p q = e ∙ ap (λ zs. parts_of zs ys) p ∙ ap (parts_of signs) q
 
-pub invariant-of-self : goal.invariant-of-self
-invariant-of-self g c = let told = c.rebuild.ensures in (∣ told.ready ∣₁, (told.within, (told.room, tt)))
+pub invariant_of-self : goal.invariant_of-self
+invariant_of-self g c = let told = c.rebuild.ensures in record { ready = ∣ told.ready ∣₁; within = told.within; room = told.room }
 
 pub returns : goal.returns
 returns g c =

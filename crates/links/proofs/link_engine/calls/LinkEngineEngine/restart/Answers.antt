@@ -5,18 +5,18 @@ use Rattle.links.specs.Tables.{cues_in}
 use Rattle.links.proofs.Opened.{opened}
 use Rattle.links.proofs.link_engine.calls.LinkEngineEngine.restart.Goals as goal
 
-pub set-live-requires : goal.set-live-requires
-set-live-requires c =
+pub set_live-requires : goal.set_live-requires
+set_live-requires c =
     let e = c.args.self.now in
     omega (arith, (opened e).within, (opened e).sound.some, e.table.nodes.ok.0)
 
 pub returns : goal.returns
 returns c =
     let e = c.args.self.now in
-    let told = c.set-live.ensures in
+    let told = c.set_live.ensures in
     record {
       cues = ap cues_in told.table;
       live =
-          ap (λ t. path (cues_in t) (vec_items t.nodes) c.set-live.new.self.at) told.table ∙ ap (path (cues_in e.table) (vec_items e.table.nodes)) told.at ∙ path_root (cues_in e.table) (vec_items e.table.nodes) (vec_items e.table.heads) (opened e).sound;
+          ap (λ t. path (cues_in t) (vec_items t.nodes) c.set_live.new.self.at) told.table ∙ ap (path (cues_in e.table) (vec_items e.table.nodes)) told.at ∙ path_root (cues_in e.table) (vec_items e.table.nodes) (vec_items e.table.heads) (opened e).sound;
       cost = told.trials;
     }

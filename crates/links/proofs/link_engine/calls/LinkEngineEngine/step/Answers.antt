@@ -1,5 +1,4 @@
 use Rattle.std.proofs.Common.{◌≡◌, ℕ, ◌+◌, ◌-◌, ◌^◌, ◌≤◌, min, length, vec_items, refl, ap, arith}
-use Rattle.matching.specs.Match.{live}
 use Rattle.matching.proofs.Live.{tries_bound}
 use Rattle.links_theory.specs.Entries.{path}
 use Rattle.links.specs.Tables.{cues_in}
@@ -12,10 +11,10 @@ walk-walk-requires c =
     let r = opened e in
     record { sound = r.sound; within = omega (arith, r.within, e.table.nodes.ok.0); full = r.complete _ }
 
-pub invariant-of-self : goal.invariant-of-self
-invariant-of-self c =
+pub invariant_of-self : goal.invariant_of-self
+invariant_of-self c =
     let e = c.args.self.now in
-    (∣ moved e c.walk-walk.result.at c.walk-walk.ensures.within ∣₁, (e.within, (e.room, tt)))
+    record { ready = ∣ moved e c.walk-walk.result.at c.walk-walk.ensures.within ∣₁; within = e.within; room = e.room }
 
 -- the count, and the trait's bound on it
 counted : (a b n m k : ℕ) → a ≡ min (b + n) (2 ^ 32 - 1) → n + m ≤ k + 2 → a + m ≤ b + k + 2
@@ -28,7 +27,7 @@ pub returns : goal.returns
 returns c =
     let e = c.args.self.now in
     let w = c.walk-walk.ensures in
-    let all = c.saturating-add-self.ensures in
+    let all = c.saturating_add-self.ensures in
     record {
       cues = refl;
       live = w.lives;
