@@ -1,7 +1,7 @@
 -- What is read of an input is written in it.
 use Rattle.std.proofs.Common.{◌≡◌, ℕ, suc, ◌<◌, List, [], ◌∷◌, ◌++◌, length, drop, Ok, Err, Option, Result, sym, refl, ap, ◌∙◌, subst, ⊎_elim, arith}
 use Rattle.std.proofs.lemmas.List.{append_assoc}
-use Rattle.std.specs.List.{AllByRecursion as All}
+use Rattle.std.specs.List.{AllByRecursion}
 use Rattle.events.specs.declared.Refusal.{Refusal}
 use Rattle.columns.proofs.Splits.{lines_split, first_rest}
 use Rattle.columns.specs.Lines.{CueText, first_line, lines_of, read_line}
@@ -96,7 +96,7 @@ front (l ∷ ls) xs before h ok =
 record Logged (xs : List ℕ) (text : List Values) (end : Option Refusal) : Type 0 where
   pub rest : List ℕ
   pub is : xs ≡ log_text text ++ rest
-  pub each : All LogEvent text
+  pub each : AllByRecursion LogEvent text
   pub ends : Ends rest end
 
 log_step : (r : Result Values Refusal) (xs l : List ℕ) (ls : List (List ℕ)) → Split xs l ls → LogSaid l r → Logged (drop (length l) xs) (text_of ls) (end_of ls) → Logged xs (text_from r (text_of ls)) (end_from r (end_of ls))

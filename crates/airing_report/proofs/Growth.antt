@@ -2,7 +2,7 @@
 use Rattle.std.proofs.Common.{◌≡◌, ℕ, suc, ◌+◌, ◌<◌, ◌≤◌, List, [], ◌∷◌, ◌++◌, length, sym, refl, ap, ◌∙◌, arith}
 use Rattle.std.proofs.ByRecursion.{All-push}
 use Rattle.std.proofs.lemmas.List.{append_assoc, append-nil, length-append}
-use Rattle.std.specs.List.{flat_map, AllByRecursion as All}
+use Rattle.std.specs.List.{flat_map, AllByRecursion}
 use Rattle.columns.specs.Lines.{cue_numbers}
 use Rattle.columns.specs.Written.{cue_line}
 use Rattle.script.specs.Listed.{behind_last}
@@ -13,7 +13,7 @@ abbrev pub line_of : ℕ → Values → List ℕ
 line_of n e = cue_line n e.1 e.2
 
 abbrev pub SaidCue : List Values → Type 0
-SaidCue c = (1 ≤ length c) × All CueEvent c
+SaidCue c = (1 ≤ length c) × AllByRecursion CueEvent c
 
 joined_push : (f : Values → List ℕ) (c : List Values) (e : Values) → flat_map f (c ++ e ∷ []) ≡ flat_map f c ++ f e
 joined_push f [] e = append-nil (f e)
@@ -37,7 +37,7 @@ texts_begun n m [] e h =
 texts_begun n m (c ∷ cs) e h =
     ap (λ xs. flat_map (line_of n) c ++ xs) (texts_begun (suc n) m cs e (omega arith)) ∙ sym (append_assoc (flat_map (line_of n) c) (cue_texts (suc n) cs) (line_of m e))
 
-all_behind : (cues : List (List Values)) (e : Values) → All SaidCue cues → CueEvent e → All SaidCue (behind_last cues e)
+all_behind : (cues : List (List Values)) (e : Values) → AllByRecursion SaidCue cues → CueEvent e → AllByRecursion SaidCue (behind_last cues e)
 all_behind [] e h p = ((omega arith, (p, tt)), tt)
 all_behind (c ∷ []) e h p = ((omega (arith, length-append c (e ∷ [])), All-push CueEvent c e h.0.1 p), tt)
 all_behind (c ∷ (d ∷ cs)) e h p = (h.0, all_behind (d ∷ cs) e h.1 p)

@@ -2,7 +2,7 @@
 use Rattle.std.proofs.Common.{◌≡◌, ℕ, suc, ◌+◌, ◌^◌, ◌<◌, ◌≤◌, List, [], ◌∷◌, ◌++◌, length, drop, Some, Ok, Err, Option, sym, refl, ap, ◌∙◌, arith}
 use Rattle.std.proofs.lemmas.List.{append_assoc, append-nil, length_push}
 use Rattle.std.proofs.lemmas.Bool.{cond-true, cond-false, eq-eqb, ne_eqb}
-use Rattle.std.specs.List.{flat_map, AllByRecursion as All}
+use Rattle.std.specs.List.{flat_map, AllByRecursion}
 use Rattle.events.specs.declared.Refusal.{Refusal}
 use Rattle.events.specs.declared.Refusal.TheVariants.{Misnumbered}
 use Rattle.columns.proofs.Splits.{lines_split}
@@ -35,7 +35,7 @@ is_next n e p =
     ∙ (cond-true _ _ _ (eq-eqb n n refl) ∙ ap (λ z. next (z, e.1, e.2)) (sym p.0))
 
 -- More lines of the last cue.
-read_more : (before : List (List Values)) (c es : List Values) (rest : List ℕ) → length before < cue_numbers → All CueEvent es →
+read_more : (before : List (List Values)) (c es : List Values) (rest : List ℕ) → length before < cue_numbers → AllByRecursion CueEvent es →
     read_cues (before ++ c ∷ []) (lines_of (flat_map (line_of (length before)) es ++ rest)) ≡ read_cues (before ++ (c ++ es) ∷ []) (lines_of rest)
 read_more before c [] rest room h = ap (λ x. read_cues (before ++ x ∷ []) (lines_of rest)) (sym (append-nil c))
 read_more before c (e ∷ es) rest room h =
@@ -49,7 +49,7 @@ read_more before c (e ∷ es) rest room h =
     ∙ ap (λ x. read_cues (before ++ x ∷ []) (lines_of rest)) (append_assoc c (e ∷ []) es))))
 
 -- All lines of some cues, behind those before.
-read_texts : (before cues : List (List Values)) (rest : List ℕ) → length before + length cues ≤ cue_numbers → All SaidCue cues →
+read_texts : (before cues : List (List Values)) (rest : List ℕ) → length before + length cues ≤ cue_numbers → AllByRecursion SaidCue cues →
     read_cues before (lines_of (cue_texts (length before) cues ++ rest)) ≡ read_cues (before ++ cues) (lines_of rest)
 read_texts before [] rest few h = ap (λ x. read_cues x (lines_of rest)) (sym (append-nil before))
 read_texts before ([] ∷ cues) rest few h = absurd (omega (arith, h.0.0))
@@ -103,7 +103,7 @@ read_ends rest end (cut_short r some err is) =
     let later = lines_of (drop (length (first_line rest)) rest) in
     (ap text_of lines ∙ ap (λ x. text_from x (text_of later)) bad, ap end_of lines ∙ (ap (λ x. end_from x (end_of later)) bad ∙ sym is))
 
-read_logs : (text : List Values) (rest : List ℕ) (end : Option Refusal) → All LogEvent text → Ends rest end →
+read_logs : (text : List Values) (rest : List ℕ) (end : Option Refusal) → AllByRecursion LogEvent text → Ends rest end →
     (text_of (lines_of (log_text text ++ rest)) ≡ text) × (end_of (lines_of (log_text text ++ rest)) ≡ end)
 read_logs [] rest end h ends = read_ends rest end ends
 read_logs (e ∷ es) rest end h ends =

@@ -1,6 +1,6 @@
 -- An input of airings in the words of the subject: it is the text that is written of what it says.
 use Rattle.std.specs.Prelude.{◌≡◌, ℕ, suc, ◌<◌, ◌≤◌, true, List, [], ◌∷◌, ◌++◌, length, Some, None, Err, Option, ◌≢◌}
-use Rattle.std.specs.List.{flat_map, AllByRecursion as All}
+use Rattle.std.specs.List.{flat_map, AllByRecursion}
 use Rattle.events.specs.declared.Refusal.{Refusal}
 use Rattle.events.specs.declared.Refusal.TheVariants.{Unreadable, Misnumbered}
 use Rattle.columns.specs.Kinds.{kind_letter}
@@ -29,7 +29,7 @@ LogEvent e = (e.0 < seconds) × (kind_letter e.1 ≡ true) × (e.2 < carts)
 
 -- Cues that cue lines can say: at most 10,000 of them, each of one event or more.
 pub record Readable (cues : List (List Values)) : Type 0 where
-  pub each : All (λ c. (1 ≤ length c) × All CueEvent c) cues
+  pub each : AllByRecursion (λ c. (1 ≤ length c) × AllByRecursion CueEvent c) cues
   pub few : length cues ≤ cue_numbers
 
 -- Why what stands behind the lines of n cues is refused.
@@ -50,7 +50,7 @@ pub data Ends (rest : List ℕ) (end : Option Refusal) : Type 0 where
 -- What an input says.
 pub data Reads (xs : List ℕ) (s : Contents Values) : Type 0 where
   -- cue lines, the parting line, log lines, and what is refused behind them
-  parted : (rest : List ℕ) → Readable s.cues → All LogEvent s.text →
+  parted : (rest : List ℕ) → Readable s.cues → AllByRecursion LogEvent s.text →
       xs ≡ cue_texts 0 s.cues ++ (10 ∷ (log_text s.text ++ rest)) → s.stop ≡ None → Ends rest s.end → Reads xs s
   -- cue lines, and what is refused behind them
   unparted : (rest : List ℕ) (r : Refusal) → Readable s.cues →

@@ -1,6 +1,6 @@
 -- What airings writes.
 use Rattle.std.specs.Prelude.{◌≡◌, ℕ, ◌+◌, ◌<◌, ◌≤◌, List, ◌∷◌, ◌++◌, length, Err}
-use Rattle.std.specs.List.{AllByRecursion as All}
+use Rattle.std.specs.List.{AllByRecursion}
 use Rattle.events.specs.Refused.{number_of}
 use Rattle.events.specs.declared.Refusal.{Refusal}
 use Rattle.columns.specs.Lines.{first_line, read_line}
@@ -27,7 +27,7 @@ AiringsOnce xs = AnsweredOnce same_values PerEvent read_airings Reads xs
 abbrev pub Shorter : List ℕ → Type 0
 Shorter xs =
     (cues : List (List Values)) (log : List Values) (rest : List ℕ) (refusal : Refusal) →
-    Readable cues → All LogEvent log → Booked same_values cues → length xs ≤ longest_input →
+    Readable cues → AllByRecursion LogEvent log → Booked same_values cues → length xs ≤ longest_input →
     xs ≡ cue_texts 0 cues ++ (10 ∷ (log_text log ++ rest)) → 0 < length rest → read_line LogSection (first_line rest) ≡ Err refusal →
     (es : List (ℕ × ℕ × ℕ)) ×
     (airings_report (cue_texts 0 cues ++ (10 ∷ log_text log)) ≡ entry_lines es ++ total_line (length log) (length es)) ×

@@ -2,7 +2,7 @@
 use Rattle.std.proofs.Common.{◌≡◌, ℕ, zero, suc, ◌+◌, ◌<◌, ◌≤◌, min, Bool, true, false, ◌||◌, ◌⊎◌, List, [], ◌∷◌, ◌++◌, length, drop, None, sym, refl, ap, ◌∙◌, subst, ⊎_elim, arith}
 use Rattle.std.proofs.lemmas.List.{get_or_append_left, get_or_at, length_push, length-take, length-drop}
 use Rattle.std.proofs.lemmas.Bool.{cases_lt}
-use Rattle.matching.specs.Calls.{total as totalSigns}
+use Rattle.matching.specs.Calls.{total as sign_total}
 use Rattle.matching.specs.Match.{listed, distinct, same as equal}
 use Rattle.book.specs.Cues.{add_refusal, cue_at, part_of, parts_of, total, Within, AllWithin}
 use Rattle.book.specs.declared.cue.Cue.{Cue}
@@ -47,7 +47,7 @@ granted material cues there place len h =
 pub length_part : (signs : List ℕ) (c : Cue) → c.place + c.len ≤ length signs → length (part_of signs c) ≡ c.len
 length_part signs c h = length-take c.len (drop c.place signs) ∙ (ap (min c.len) (length-drop c.place signs) ∙ omega arith)
 
-pub total_signs : (signs : List ℕ) (cues : List Cue) → AllWithin (length signs) cues → totalSigns (parts_of signs cues) ≡ total cues
+pub total_signs : (signs : List ℕ) (cues : List Cue) → AllWithin (length signs) cues → sign_total (parts_of signs cues) ≡ total cues
 total_signs signs [] all = refl
 total_signs signs (c ∷ cues) all =
     let one = length_part signs c (all zero c (omega arith)).2 in

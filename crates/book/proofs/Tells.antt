@@ -5,7 +5,7 @@ use Rattle.std.proofs.lemmas.Slice.Eq.{compares_Decides}
 use Rattle.std.proofs.lemmas.List.{map-append, take-map, drop-map, drop-append-le, get_or_at, take-append-drop}
 use Rattle.std.proofs.ByRecursion.{All-take, All-drop, All-from_get_or}
 use Rattle.std.proofs.lemmas.Bool.{cases_Bool, lt-ltb, le-ltb, eq-eqb, ne_eqb, cases_lt, both_ways, and_right, cases_eq, cond-true, cond-false}
-use Rattle.std.specs.List.{AllByRecursion as All}
+use Rattle.std.specs.List.{AllByRecursion}
 use Rattle.matching.specs.Match.{listed, same as equal}
 use Rattle.events.specs.Sameness.{Lawful, same_lists}
 use Rattle.book.specs.Signs.{first_place, sign_of, signs_of}
@@ -73,12 +73,12 @@ sign_tells same law material short e i d h =
     (λ (s : same m e ≡ false). ne_eqb _ _ (telling_other same law material short m e d (omega arith) s) ∙ sym s)
     (cases_Bool (same m e))
 
-all_telling : {E : Type 0} (same : E → E → Bool) → Lawful same → (material : List E) → length material ≤ 2048 → All (Telling same material) material
+all_telling : {E : Type 0} (same : E → E → Bool) → Lawful same → (material : List E) → length material ≤ 2048 → AllByRecursion (Telling same material) material
 all_telling same law [] short = tt
 all_telling same law (m ∷ ms) short = All-from_get_or (Telling same (m ∷ ms)) (m ∷ ms) m (λ i h e. sign_tells same law (m ∷ ms) short e i m h)
 
 -- Lists of material events are the same as others exactly where their signs are equal.
-pub signs_same : {E : Type 0} (same : E → E → Bool) (material xs ys : List E) → All (Telling same material) xs → equal (signs_of same material xs) (signs_of same material ys) ≡ same_lists same xs ys
+pub signs_same : {E : Type 0} (same : E → E → Bool) (material xs ys : List E) → AllByRecursion (Telling same material) xs → equal (signs_of same material xs) (signs_of same material ys) ≡ same_lists same xs ys
 signs_same same material [] [] a = refl
 signs_same same material [] (y ∷ ys) a = refl
 signs_same same material (x ∷ xs) [] a = refl
@@ -89,7 +89,7 @@ pub part_signs : {E : Type 0} (same : E → E → Bool) (material : List E) (sig
 part_signs same material signs signed place len =
     ap (part place len) signed ∙ (ap (take len) (drop-map (sign_of same material) place material) ∙ take-map (sign_of same material) len (drop place material))
 
-pub part_telling : {E : Type 0} (same : E → E → Bool) → Lawful same → (material : List E) → length material ≤ 2048 → (place len : ℕ) → All (Telling same material) (part place len material)
+pub part_telling : {E : Type 0} (same : E → E → Bool) → Lawful same → (material : List E) → length material ≤ 2048 → (place len : ℕ) → AllByRecursion (Telling same material) (part place len material)
 part_telling same law material short place len = All-take _ len _ (All-drop _ place _ (all_telling same law material short))
 
 -- Two parts have equal signs exactly where their events are the same.

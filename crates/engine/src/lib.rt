@@ -5,7 +5,7 @@
 ghost use Rattle.std.specs.Prelude.{◌≡◌, ℕ, ◌+◌, ◌≤◌, List, [], ◌∷◌, ◌++◌, length, MatchResult};
 ghost use Rattle.book.specs.Cues.{answer};
 ghost use Rattle.book.specs.Held.{book_held, cue_signs};
-ghost use Rattle.matching.specs.Match.{live as live_of, sightings, standing as standingOf};
+ghost use Rattle.matching.specs.Match.{live as live_of, sightings, standing as standing_of};
 ghost use Rattle.engine.specs.Statements.{ith, load_refusal, named, resume_refusal};
 
 use book::Book;
@@ -61,7 +61,7 @@ pub trait Engine: Sized {
 
     // The lowest cue that begins with the live beginning, and its length; (0, 0) where it is empty.
     fn standing(&self) -> (u16, u16)
-        ensures { result ≡ standingOf (cues self.now) (live self.now) };
+        ensures { result ≡ standing_of (cues self.now) (live self.now) };
 
     // Back to the beginning that a standing names.
     fn resume(&mut self, standing: (u16, u16)) -> Result<(), Refusal>

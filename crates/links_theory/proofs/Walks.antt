@@ -1,6 +1,6 @@
 -- The walk along the links until one sign more fits.
 use Rattle.std.proofs.Common.{◌≡◌, ℕ, zero, suc, ◌+◌, ◌<◌, ◌≤◌, true, false, ◌⊎◌, List, [], ◌∷◌, ◌++◌, length, get_or, None, Option, sym, refl, ap, ◌∙◌, inl, inr, ⊎_elim, arith}
-use Rattle.matching.specs.Match.{beginning, live, link as link_of, standing as standingOf, tries, sightings}
+use Rattle.matching.specs.Match.{beginning, live, link as link_of, standing as standing_of, tries, sightings}
 use Rattle.matching.proofs.Live.{live_itself, walk_right}
 use Rattle.links_theory.specs.declared.Node.{Node}
 use Rattle.links_theory.specs.Entries.{node_at, path, Sound, Complete, Found, Walked, Ready, exact_of}
@@ -80,10 +80,10 @@ module _ (cues : List (List ℕ)) (nodes : List Node) (heads : List ℕ) (s : So
       w.lives ∙ ap (λ b. live cues (b ++ sign ∷ [])) (link_path parent p h).1 ∙ sym (link_push cues (path cues nodes parent) sign (omega (arith, own, some)))
 
   -- the standing of an entry
-  pub standing_entry : (at : ℕ) → at < length nodes → ((node_at nodes at).cue, (node_at nodes at).len) ≡ standingOf cues (path cues nodes at)
+  pub standing_entry : (at : ℕ) → at < length nodes → ((node_at nodes at).cue, (node_at nodes at).len) ≡ standing_of cues (path cues nodes at)
   standing_entry at h =
       ⊎_elim
-      (λ (z : at ≡ 0). rw z (grind (arith, s.root_cue, s.root_len, ap (standingOf cues) (path_root cues nodes heads s))))
+      (λ (z : at ≡ 0). rw z (grind (arith, s.root_cue, s.root_len, ap (standing_of cues) (path_root cues nodes heads s))))
       (λ (p : 0 < at).
       let own = path_length cues nodes heads s at h in
       let some = (s.entries at p h).some in

@@ -1,7 +1,7 @@
 -- Calls: each keeps what a watch holds, and what follows from that.
 -- Assumes nothing.
 use Rattle.std.proofs.Common.{◌≡◌, ℕ, zero, suc, ◌+◌, ◌-◌, ◌*◌, ◌<◌, ◌≤◌, true, false, ◌&&◌, leb, List, [], ◌∷◌, ◌++◌, length, get_or, take, drop, sym, refl, ap, ◌∙◌, subst, append_assoc, append-nil, arith, length-append, length-take}
-use Rattle.std.specs.List.{AllByRecursion as All}
+use Rattle.std.specs.List.{AllByRecursion}
 use Rattle.std.proofs.lemmas.List.{take-append-drop, take-append-le, drop-append-le}
 use Rattle.matching.specs.Match.{listed, beginning, live, lowest, standing, sightings, tries, trials, distinct, Alike}
 use Rattle.matching.specs.Follow.{takable, followed, followed_at}
@@ -146,7 +146,7 @@ resume_back room a =
       rw g (ap (λ v. standing a.cues (live a.cues v)) back ∙ ap (standing a.cues) (live_itself a.cues b (live_begins a.cues a.text))),
     )
 
-endings_hold : (cues cs : List (List ℕ)) → distinct cues ≡ true → All (λ c. length c ≤ 32) cues → few_endings cues cs ≡ true
+endings_hold : (cues cs : List (List ℕ)) → distinct cues ≡ true → AllByRecursion (λ c. length c ≤ 32) cues → few_endings cues cs ≡ true
 endings_hold cues [] d s = refl
 endings_hold cues (c ∷ cs) d s = grind (arith, sightings_few cues c 32 d s, endings_hold cues cs d s)
 

@@ -1,7 +1,7 @@
 -- Standings: two texts have one standing exactly when nothing put behind both tells them apart.
 -- Assumes nothing.
 use Rattle.std.proofs.Common.{◌≡◌, ℕ, ◌<◌, true, List, [], ◌∷◌, ◌++◌, length, get_or, drop, sym, refl, ap, ◌∙◌, subst, append_assoc, append-nil, arith}
-use Rattle.std.specs.List.{AllByRecursion as All}
+use Rattle.std.specs.List.{AllByRecursion}
 use Rattle.std.proofs.ByRecursion.{All-get_or, All-drop}
 use Rattle.std.proofs.lemmas.List.{append_cancel_right}
 use Rattle.matching.specs.Match.{beginning, live, lowest, standing, sightings, Ends, Among, Signs, Alike}
@@ -10,7 +10,7 @@ use Rattle.matching.proofs.Live.{ends_same, live_begins, live_ends, live_right, 
 use Rattle.matching.proofs.Sightings.{sightings_enough, sightings_sound, sightings_all}
 
 -- a beginning that ends one text then ends the other: put the rest of its cue behind both
-pub alike_ends : (cues : List (List ℕ)) (b t u : List ℕ) → All Signs cues → Alike cues t u → beginning cues b ≡ true → Ends b t → Ends b u
+pub alike_ends : (cues : List (List ℕ)) (b t u : List ℕ) → AllByRecursion Signs cues → Alike cues t u → beginning cues b ≡ true → Ends b t → Ends b u
 alike_ends cues [] t u a h g e = (u, append-nil u)
 alike_ends cues (x ∷ b) t u a h g e =
     let l = lowest_begins cues (x ∷ b) g in
@@ -25,7 +25,7 @@ alike_ends cues (x ∷ b) t u a h g e =
     let there = (sightings_sound cues (u ++ r) n (length c) (subst (Among (n, length c)) same seen)).0.2 in
     (there.0, append_cancel_right (there.0 ++ (x ∷ b)) u r (cc (cut, there.1, append_assoc there.0 (x ∷ b) r)))
 
-pub alike_live : (cues : List (List ℕ)) (t u : List ℕ) → All Signs cues → Alike cues t u → live cues t ≡ live cues u
+pub alike_live : (cues : List (List ℕ)) (t u : List ℕ) → AllByRecursion Signs cues → Alike cues t u → live cues t ≡ live cues u
 alike_live cues t u a h =
     let there : Ends (live cues t) u = alike_ends cues (live cues t) t u a h (live_begins cues t) (live_ends cues t) in
     let back : Ends (live cues u) t = alike_ends cues (live cues u) u t a (λ s g. sym (h s g)) (live_begins cues u) (live_ends cues u) in

@@ -1,7 +1,7 @@
 -- The account of a list of calls to a watch: what its granted calls come to.
 -- Assumes nothing.
 use Rattle.std.specs.Prelude.{◌≡◌, ℕ, ◌+◌, ◌-◌, ◌*◌, ◌<◌, ◌≤◌, Bool, true, false, cond, ◌&&◌, ◌||◌, List, [], ◌∷◌, ◌++◌, length, take, drop, ◌==◌, nat_le, nat_lt, slice_index_or}
-use Rattle.std.specs.List.{AllByRecursion as All}
+use Rattle.std.specs.List.{AllByRecursion}
 use Rattle.matching.specs.Match.{live, sightings, standing, tries, trials, distinct, Signs, Alike}
 use Rattle.matching.specs.Follow.{longest_text, takable, followed, followed_at}
 
@@ -145,7 +145,7 @@ CallsTell =
     (roomA roomB : ℕ) (calls_a callsB : List Call) →
     let a : Account = account roomA calls_a in
     let b : Account = account roomB callsB in
-    a.cues ≡ b.cues → All Signs a.cues →
+    a.cues ≡ b.cues → AllByRecursion Signs a.cues →
     (stands a ≡ stands b → Alike a.cues a.text b.text) ×
     (Alike a.cues a.text b.text → stands a ≡ stands b)
 
@@ -160,7 +160,7 @@ ResumeBack =
 -- where no two cues are equal and none is longer than 32, no cue ends with more than 32 of them, so room alone decides a load
 abbrev pub EndingsFew : Type 0
 EndingsFew =
-    (room : ℕ) (cues : List (List ℕ)) → distinct cues ≡ true → All (λ c. length c ≤ 32) cues → loadable room cues ≡ nat_le (total cues) room
+    (room : ℕ) (cues : List (List ℕ)) → distinct cues ≡ true → AllByRecursion (λ c. length c ≤ 32) cues → loadable room cues ≡ nat_le (total cues) room
 
 -- after any calls, no text has more than 32 sightings
 abbrev pub CallsFew : Type 0
@@ -176,4 +176,4 @@ SameGrant roomA roomB restarts = Unit {0}
 
 -- where each load is granted or denied alike, the calls come to one account
 abbrev pub RoomsAlike : Type 0
-RoomsAlike = (roomA roomB : ℕ) (calls : List Call) → All (SameGrant roomA roomB) calls → account roomA calls ≡ account roomB calls
+RoomsAlike = (roomA roomB : ℕ) (calls : List Call) → AllByRecursion (SameGrant roomA roomB) calls → account roomA calls ≡ account roomB calls

@@ -1,7 +1,7 @@
 -- The laws of matching, in the textbook's words. Each is proved: a function of this crate has it as its contract.
 -- Assumes nothing.
 use Rattle.std.specs.Prelude.{◌≡◌, ℕ, suc, ◌+◌, ◌*◌, ◌<◌, ◌≤◌, true, false, ◌&&◌, ◌⊎◌, List, [], ◌∷◌, ◌++◌, length, get_or, take, Some, ◌==◌, ◌≢◌, slice_index_or}
-use Rattle.std.specs.List.{AllByRecursion as All}
+use Rattle.std.specs.List.{AllByRecursion}
 use Rattle.matching.specs.Match.{begins, beginning, live, exact, sightings, standing, link, tries, trials, Ends, ends, wait, Sighted, Among, distinct, filled, Signs, Alike}
 
 -- a list is a beginning exactly when it is empty or some cue is that list and more
@@ -68,13 +68,13 @@ SightingsOnly =
 -- where no two cues are equal, there are at most as many sightings as the longest cue has signs
 abbrev pub SightingsFew : Type 0
 SightingsFew =
-    (cues : List (List ℕ)) (t : List ℕ) (most : ℕ) → distinct cues ≡ true → All (λ c. length c ≤ most) cues →
+    (cues : List (List ℕ)) (t : List ℕ) (most : ℕ) → distinct cues ≡ true → AllByRecursion (λ c. length c ≤ most) cues →
     length (sightings cues t) ≤ most
 
 -- over a book of 16-bit signs, two texts have one standing exactly when no list put behind both tells them apart
 abbrev pub StandingsTell : Type 0
 StandingsTell =
-    (cues : List (List ℕ)) (t u : List ℕ) → All Signs cues →
+    (cues : List (List ℕ)) (t u : List ℕ) → AllByRecursion Signs cues →
     (standing cues (live cues t) ≡ standing cues (live cues u) → Alike cues t u) ×
     (Alike cues t u → standing cues (live cues t) ≡ standing cues (live cues u))
 

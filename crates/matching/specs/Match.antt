@@ -2,7 +2,7 @@
 -- a book is a list of cues, and a text is a list of signs.
 -- Assumes nothing.
 use Rattle.std.specs.Prelude.{◌≡◌, ℕ, suc, ◌+◌, ◌-◌, ◌<◌, min, max, Bool, true, false, cond, not, ◌&&◌, ◌||◌, ◌⊎◌, List, [], ◌∷◌, ◌++◌, length, Some, None, Option, ◌==◌, slice_index_or}
-use Rattle.std.specs.List.{AllByRecursion as All}
+use Rattle.std.specs.List.{AllByRecursion}
 
 -- the first list is a front (a prefix) of the second
 abbrev pub begins : List ℕ → List ℕ → Bool
@@ -114,7 +114,7 @@ wait (c ∷ cues) k = Some (max 1 (shortest (length c) cues - k))
 
 -- all signs are 16-bit numbers
 abbrev pub Signs : List ℕ → Type 0
-Signs t = All (λ x. x < 65536) t
+Signs t = AllByRecursion (λ x. x < 65536) t
 
 -- no list of 16-bit numbers put behind both texts, the empty one too, tells them apart by its sightings
 abbrev pub Alike : List (List ℕ) → List ℕ → List ℕ → Type 0

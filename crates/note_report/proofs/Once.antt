@@ -3,7 +3,7 @@ use Rattle.std.proofs.Common.{◌≡◌, ℕ, true, false, eqb, List, [], ◌∷
 use Rattle.std.proofs.ByRecursion.{All-push}
 use Rattle.std.proofs.lemmas.List.{append-nil}
 use Rattle.std.proofs.lemmas.Bool.{cond_both, eqb-true, eqb-false}
-use Rattle.std.specs.List.{AllByRecursion as All}
+use Rattle.std.specs.List.{AllByRecursion}
 use Rattle.script.specs.Report.{Contents}
 use Rattle.note_report.specs.Inputs.{Unbroken, Sayable, note_lines, Reads, parted, unparted, ReadsOnce}
 use Rattle.note_report.specs.Reading.{read_behind, read_notes, with_text, without_text}
@@ -22,7 +22,7 @@ text_line : (cues : List (List ℕ)) (line bs : List ℕ) (b : ℕ) → b ≡ 10
 text_line cues line bs b e = lines_push cues line bs ∙ ap (λ a. note_lines cues ++ (line ++ (a ∷ bs))) (sym e)
 
 -- what is read is what the input is the text of
-reads_behind : (cues : List (List ℕ)) (line xs : List ℕ) → All Sayable cues → Unbroken line → Reads (note_lines cues ++ (line ++ xs)) (read_behind cues line xs)
+reads_behind : (cues : List (List ℕ)) (line xs : List ℕ) → AllByRecursion Sayable cues → Unbroken line → Reads (note_lines cues ++ (line ++ xs)) (read_behind cues line xs)
 reads_behind cues line [] says u = unparted line says u (ap (λ t. note_lines cues ++ t) (append-nil line)) refl refl refl
 reads_behind cues line (b ∷ bs) says u =
     let P : Contents ℕ → Type 0 = Reads (note_lines cues ++ (line ++ (b ∷ bs))) in

@@ -2,7 +2,7 @@
 use Rattle.std.proofs.Common.{◌≡◌, ℕ, ◌<◌, List, [], ◌∷◌, ◌++◌, length, refl, ap, ◌∙◌, append_assoc, arith}
 use Rattle.std.proofs.lemmas.List.{append-nil, length-append}
 use Rattle.std.proofs.lemmas.Bool.{ne_eqb}
-use Rattle.std.specs.List.{AllByRecursion as All}
+use Rattle.std.specs.List.{AllByRecursion}
 use Rattle.note_report.specs.Inputs.{Unbroken, Sayable, note_lines}
 use Rattle.note_report.specs.Reading.{read_behind, with_text, without_text}
 
@@ -29,7 +29,7 @@ pub shorter : (t behind rest : List ℕ) → rest ≡ t ++ (10 ∷ behind) → l
 shorter t behind rest e = omega (arith, ap length e, length-append t (10 ∷ behind))
 
 -- the lines of some cues
-pub read_lines : (before cues : List (List ℕ)) (rest : List ℕ) → All Sayable cues → read_behind before [] (note_lines cues ++ rest) ≡ read_behind (before ++ cues) [] rest
+pub read_lines : (before cues : List (List ℕ)) (rest : List ℕ) → AllByRecursion Sayable cues → read_behind before [] (note_lines cues ++ rest) ≡ read_behind (before ++ cues) [] rest
 read_lines before [] rest says = rw append-nil
 read_lines before (c ∷ cues) rest says =
     rw (append_assoc c (10 ∷ note_lines cues) rest, ← append_assoc before (c ∷ []) cues) (read_line_lem before c (note_lines cues ++ rest) _ refl says.0 ∙ read_lines (before ++ c ∷ []) cues rest says.1)

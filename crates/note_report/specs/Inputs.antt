@@ -1,13 +1,13 @@
 -- Inputs of notes in the words of the subject: an input says what it is the text of.
 use Rattle.std.specs.Prelude.{◌≡◌, ℕ, ◌<◌, List, [], ◌∷◌, ◌++◌, length, Some, None}
-use Rattle.std.specs.List.{AllByRecursion as All}
+use Rattle.std.specs.List.{AllByRecursion}
 use Rattle.events.specs.declared.Refusal.TheVariants.{Unreadable}
 use Rattle.script.specs.Report.{Contents}
 use Rattle.note_report.specs.Reading.{read_notes}
 
 -- Bytes with no byte 10 among them.
 abbrev pub Unbroken : List ℕ → Type 0
-Unbroken bs = All (λ b. (b ≡ 10) → ⊥) bs
+Unbroken bs = AllByRecursion (λ b. (b ≡ 10) → ⊥) bs
 
 -- A cue that a line can say: at least one byte, and none of them byte 10.
 abbrev pub Sayable : List ℕ → Type 0
@@ -20,9 +20,9 @@ note_lines (c ∷ cues) = c ++ (10 ∷ note_lines cues)
 
 pub data Reads (xs : List ℕ) (s : Contents ℕ) : Type 0 where
   -- the lines of the cues, the parting line and the text
-  parted : All Sayable s.cues → xs ≡ note_lines s.cues ++ (10 ∷ s.text) → s.stop ≡ None → s.end ≡ None → Reads xs s
+  parted : AllByRecursion Sayable s.cues → xs ≡ note_lines s.cues ++ (10 ∷ s.text) → s.stop ≡ None → s.end ≡ None → Reads xs s
   -- the lines of the cues, and behind them neither a parting line nor the end of a line
-  unparted : (rest : List ℕ) → All Sayable s.cues → Unbroken rest → xs ≡ note_lines s.cues ++ rest →
+  unparted : (rest : List ℕ) → AllByRecursion Sayable s.cues → Unbroken rest → xs ≡ note_lines s.cues ++ rest →
       s.stop ≡ Some (Unreadable 0) → s.text ≡ [] → s.end ≡ None → Reads xs s
 
 -- Each input says exactly one thing.

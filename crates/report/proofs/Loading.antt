@@ -1,7 +1,7 @@
 -- No book is refused by an engine that holds 1,024 signs.
 use Rattle.std.proofs.Common.{◌≡◌, ℕ, zero, suc, ◌≤◌, true, List, [], ◌∷◌, length, None, vec_items, ◌∙◌, arith}
 use Rattle.std.proofs.lemmas.Bool.{le-leb}
-use Rattle.std.specs.List.{AllByRecursion as All}
+use Rattle.std.specs.List.{AllByRecursion}
 use Rattle.book.proofs.Adding.{length_part, total_signs}
 use Rattle.book.specs.Cues.{AllWithin, parts_of}
 use Rattle.book.specs.Held.{book_held, cue_signs}
@@ -12,7 +12,7 @@ use Rattle.matching.specs.Calls.{total, loadable}
 use Rattle.watch.proofs.Books.{book_within}
 use Rattle.watch.specs.Refusals.{load_refused}
 
-parts_short : (signs : List ℕ) (cues : List Cue) → AllWithin (length signs) cues → All (λ c. length c ≤ 32) (parts_of signs cues)
+parts_short : (signs : List ℕ) (cues : List Cue) → AllWithin (length signs) cues → AllByRecursion (λ c. length c ≤ 32) (parts_of signs cues)
 parts_short signs [] all = tt
 parts_short signs (c ∷ cues) all =
     let own = all zero c (omega arith) in

@@ -2,7 +2,7 @@
 use Rattle.std.proofs.Common.{◌≡◌, ℕ, suc, ◌+◌, ◌-◌, ◌<◌, ◌≤◌, Bool, false, ◌||◌, ltb, List, [], ◌∷◌, ◌++◌, map, length, take, drop, sym, refl, ap, ◌∙◌, subst, ⊎_elim, append_assoc, append-nil, arith}
 use Rattle.std.proofs.lemmas.List.{drop_at, drop-take, length-append, length-take, take_at, take-take}
 use Rattle.std.proofs.lemmas.Bool.{cases_lt, lt-ltb, le-ltb}
-use Rattle.std.specs.List.{flat_map, AllByRecursion as All}
+use Rattle.std.specs.List.{flat_map, AllByRecursion}
 use Rattle.events.specs.Sameness.{Lawful, same_lists}
 use Rattle.book.proofs.Tells.{Telling, lookups_signs, part_signs, part_telling}
 use Rattle.book.specs.Cues.{cue_at, has_same, part, part_of, parts_of, total}
@@ -104,7 +104,7 @@ parts_signs same material (c ∷ cues) =
     let r = parts_signs same material cues in
     cc
 
-parts_telling : {E : Type 0} (same : E → E → Bool) → Lawful same → (material : List E) → length material ≤ 2048 → (cues : List Cue) → All (λ c. All (Telling same material) c) (parts_of material cues)
+parts_telling : {E : Type 0} (same : E → E → Bool) → Lawful same → (material : List E) → length material ≤ 2048 → (cues : List Cue) → AllByRecursion (λ c. AllByRecursion (Telling same material) c) (parts_of material cues)
 parts_telling same law material short [] = tt
 parts_telling same law material short (c ∷ cues) = (part_telling same law material short c.place c.len, parts_telling same law material short cues)
 
@@ -117,7 +117,7 @@ runs_signs {E = E} same law cues text small =
     let own : parts_of (take 2048 (events cues)) (cues_at 0 (map length cues)) ≡ cues =
     ap (λ z. parts_of (take 2048 z) (cues_at 0 (map length cues))) (sym (append-nil (events cues))) ∙ parts_within [] cues [] 0 refl (omega arith) in
     let short : length (take 2048 (events cues)) ≤ 2048 = omega (arith, length-take 2048 (events cues)) in
-    let told : All (λ c. All (Telling same (take 2048 (events cues))) c) cues = subst (All (λ c. All (Telling same (take 2048 (events cues))) c)) own (parts_telling same law (take 2048 (events cues)) short (cues_at 0 (map length cues))) in
+    let told : AllByRecursion (λ c. AllByRecursion (Telling same (take 2048 (events cues))) c) cues = subst (AllByRecursion (λ c. AllByRecursion (Telling same (take 2048 (events cues))) c)) own (parts_telling same law (take 2048 (events cues)) short (cues_at 0 (map length cues))) in
     let signs : cue_signs (held_with same cues cues) ≡ map (signs_of same (take 2048 (events cues))) cues = parts_signs same (take 2048 (events cues)) (cues_at 0 (map length cues)) ∙ ap (map (signs_of same (take 2048 (events cues)))) own in
     let looked = lookups_signs same law (held_with same cues cues) refl text in
     ap (λ cs. sign_runs cs [] (lookups same (held_with same cues cues) text)) signs ∙

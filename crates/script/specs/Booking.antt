@@ -1,6 +1,6 @@
 -- Which cues a book takes, told by the cues as lists of events.
 use Rattle.std.specs.Prelude.{◌≡◌, ℕ, ◌+◌, ◌<◌, ◌≤◌, Bool, false, cond, ◌||◌, List, [], ◌∷◌, map, length, take, Some, None, Option, ◌==◌, nat_lt, slice_index_or}
-use Rattle.std.specs.List.{flat_map, AllByRecursion as All}
+use Rattle.std.specs.List.{flat_map, AllByRecursion}
 use Rattle.book.specs.Cues.{cue_at}
 use Rattle.book.specs.Held.{Held}
 use Rattle.book.specs.Signs.{signs_of}
@@ -44,7 +44,7 @@ held_with same cues before =
 
 -- The cues are those of a book: at most 128 of 1 to 32 events, 1,024 events in all, and no two the same.
 pub record Booked {E : Type 0} (same : E → E → Bool) (cues : List (List E)) : Type 0 where
-  pub sizes : All (λ c. (1 ≤ length c) × (length c ≤ 32)) cues
+  pub sizes : AllByRecursion (λ c. (1 ≤ length c) × (length c ≤ 32)) cues
   pub few : length cues ≤ 128
   pub together : size cues ≤ 1024
   pub apart : (i j : ℕ) → i < j → j < length cues → same_lists same (slice_index_or cues i []) (slice_index_or cues j []) ≡ false

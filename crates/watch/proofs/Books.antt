@@ -2,7 +2,7 @@
 use Rattle.std.proofs.Common.{◌≡◌, ℕ, zero, suc, ◌<◌, ◌≤◌, true, not, List, [], ◌∷◌, length, get_or, vec_items, sym, refl, ap, ◌∙◌, subst, arith}
 use Rattle.std.proofs.ByRecursion.{All-drop, All-from_get_or, All-take}
 use Rattle.std.proofs.lemmas.List.{length-map}
-use Rattle.std.specs.List.{AllByRecursion as All}
+use Rattle.std.specs.List.{AllByRecursion}
 use Rattle.book.proofs.Adding.{length_part}
 use Rattle.book.specs.Cues.{AllWithin, part_of, parts_of}
 use Rattle.book.specs.Held.{book_held, cue_signs}
@@ -25,7 +25,7 @@ parts_filled signs (c ∷ cues) all =
 signs_fit : (signs : List ℕ) → ((k : ℕ) → get_or signs k 0 ≤ 2048) → Signs signs
 signs_fit signs small = All-from_get_or (λ x. x < 65536) signs 0 (λ i h. omega (arith, small i))
 
-parts_signs : (signs : List ℕ) → Signs signs → (cues : List Cue) → All Signs (parts_of signs cues)
+parts_signs : (signs : List ℕ) → Signs signs → (cues : List Cue) → AllByRecursion Signs (parts_of signs cues)
 parts_signs signs fit [] = tt
 parts_signs signs fit (c ∷ cues) = (All-take _ c.len _ (All-drop _ c.place _ fit), parts_signs signs fit cues)
 

@@ -1,6 +1,6 @@
 -- What a watch is after a list of calls.
 use Rattle.std.specs.Prelude.{◌≡◌, ℕ, ◌+◌, ◌*◌, ◌<◌, ◌≤◌, Bool, true, List, [], ◌∷◌, ◌++◌, length, Some, Option, slice_index_or}
-use Rattle.std.specs.List.{AllByRecursion as All}
+use Rattle.std.specs.List.{AllByRecursion}
 use Rattle.engine.specs.declared.Engine.{Ghosts}
 use Rattle.matching.specs.Calls.{Account, Call, Holds, account, seen, stands}
 use Rattle.matching.specs.Match.{Alike, Among, Sighted, Signs, distinct, filled, sightings}
@@ -10,7 +10,7 @@ use Rattle.watch.specs.declared.watch.Watch.{Watch}
 pub record BookCues (cues : List (List ℕ)) : Type 0 where
   pub some_signs : filled cues ≡ true
   pub apart : distinct cues ≡ true
-  pub signs : All Signs cues
+  pub signs : AllByRecursion Signs cues
 
 -- The watch w is as these calls leave it, the latest first: what it holds is what the account of the
 -- calls comes to. A new watch is after no call, and each call leads on from there.

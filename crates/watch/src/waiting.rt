@@ -3,7 +3,7 @@
 ghost use Rattle.std.specs.Prelude.{◌≡◌, [], length, slice_index_or};
 ghost use Rattle.book.specs.Held.{book_held, cue_signs};
 ghost use Rattle.matching.specs.Calls.{stands};
-ghost use Rattle.matching.specs.Match.{shortest, wait as waitOf};
+ghost use Rattle.matching.specs.Match.{shortest, wait as wait_of};
 ghost use Rattle.watch.specs.After.{Always, NoneEarlier};
 
 use crate::watch::Watch;
@@ -26,7 +26,7 @@ impl<L: Engine> Watch<L> {
     // None for a book with no cue; else its shortest cue's length less the length of the live beginning,
     // but at least 1. With the loaded book, no cue ends at an earlier further event.
     pub fn wait<E: Event>(&self, book: &Book<E>) -> Option<usize>
-        ensures value { Always L.Engine self.now (λ a. result ≡ waitOf (cue_signs (book_held book.now)) (stands a).1) }
+        ensures value { Always L.Engine self.now (λ a. result ≡ wait_of (cue_signs (book_held book.now)) (stands a).1) }
         ensures earlier { Always L.Engine self.now (λ a. a.cues ≡ cue_signs (book_held book.now) → NoneEarlier a result) }
     {
         if book.cues().is_empty() {

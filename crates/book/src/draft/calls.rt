@@ -1,7 +1,7 @@
 // The calls on a draft and on a book.
 
 ghost use Rattle.std.specs.Prelude.{◌≡◌, [], length, IfOk, MatchResult, slice_index_or};
-ghost use Rattle.matching.specs.Calls.{total as totalSigns};
+ghost use Rattle.matching.specs.Calls.{total as sign_total};
 ghost use Rattle.book.specs.Bridge.{CuesEnd, SignTells};
 ghost use Rattle.book.specs.Cues.{answer, cue_at, total};
 ghost use Rattle.book.specs.Held.{add_refused, add_refused_by_signs, begun, book_held, cue_signs, draft_held, lookup, Signed, with_cue};
@@ -156,7 +156,7 @@ impl<E: Event> Book<E> {
     // The events of all cues together, and so their signs.
     pub fn total(&self) -> usize
         ensures events { result ≡ total (book_held self.now).cues }
-        ensures signs { result ≡ totalSigns (cue_signs (book_held self.now)) }
+        ensures signs { result ≡ sign_total (cue_signs (book_held self.now)) }
     {
         total_of(self.cues.as_slice())
     }
