@@ -6,7 +6,7 @@ use crate::tally::Tally;
 // A slice goes as a pointer and then a length. The functions take a book as its cues one behind the other
 // and the length of each.
 #[link(name = "bench_api", kind = "static")]
-#[link(name = "rattle_c", kind = "static")]
+#[link(name = "libc_c", kind = "static")]
 unsafe extern "C" {
     fn bench_step(
         cues: *const u16,

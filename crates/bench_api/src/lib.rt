@@ -1,14 +1,15 @@
-// The link engine and the watch above it as functions that C and Rust can call, for measuring them beside
-// other programs. Each call makes a book, loads it and searches a text. A book is given as its cues one
-// behind the other and the length of each; an event is a number.
+// The link engine and the watch above it as functions, for measuring them beside other programs. Each call
+// makes a book, loads it and searches a text. A book is given as its cues one behind the other and the
+// length of each; an event is a number. The crate `bench_api_c` offers them to C and Rust.
 
 #![tactic(auto)]
 
 mod number;
 mod tally;
 
-use crate::number::Number;
-use crate::tally::{Fault, Tally};
+pub use crate::number::Number;
+use crate::tally::Fault;
+pub use crate::tally::Tally;
 use book::{Book, Draft, Entry};
 use engine::Engine;
 use links::LinkEngine;
@@ -129,8 +130,7 @@ fn sign_all(
 }
 
 // The link engine alone: one step for each sign, and the sightings after each.
-#[unsafe(no_mangle)]
-pub extern "C" fn bench_step(heap: Global, cues: &[Number], lens: &[u16], signs: &[u16]) -> Tally {
+pub fn bench_step(heap: Global, cues: &[Number], lens: &[u16], signs: &[u16]) -> Tally {
     match step_all(heap, cues, lens, signs) {
         Ok(tally) => tally,
         Err(fault) => Tally::of_fault(fault),
@@ -138,13 +138,7 @@ pub extern "C" fn bench_step(heap: Global, cues: &[Number], lens: &[u16], signs:
 }
 
 // The watch above the link engine: all events followed.
-#[unsafe(no_mangle)]
-pub extern "C" fn bench_follow(
-    heap: Global,
-    cues: &[Number],
-    lens: &[u16],
-    text: &[Number],
-) -> Tally {
+pub fn bench_follow(heap: Global, cues: &[Number], lens: &[u16], text: &[Number]) -> Tally {
     match follow_all(heap, cues, lens, text) {
         Ok(tally) => tally,
         Err(fault) => Tally::of_fault(fault),
@@ -153,8 +147,7 @@ pub extern "C" fn bench_follow(
 
 // Writes the signs of the events under the book, for `bench_step`, as far as there is room. The answer is
 // a status.
-#[unsafe(no_mangle)]
-pub extern "C" fn bench_signs(
+pub fn bench_signs(
     heap: Global,
     cues: &[Number],
     lens: &[u16],

@@ -113,9 +113,9 @@ pub calls_cheap : CallsCheap
 calls_cheap room calls = (account_parts room calls, spent_few (account room calls) (account_parts room calls))
 
 pub calls_tell : CallsTell
-calls_tell roomA roomB calls_a callsB e g =
-    let a : Account = account roomA calls_a in
-    let b : Account = account roomB callsB in
+calls_tell room_a room_b calls_a calls_b e g =
+    let a : Account = account room_a calls_a in
+    let b : Account = account room_b calls_b in
     let told = standings_tell a.cues a.text b.text g in
     subst (λ (cues : List (List ℕ)). (standing a.cues (live a.cues a.text) ≡ standing cues (live cues b.text) → Alike a.cues a.text b.text) × (Alike a.cues a.text b.text → standing a.cues (live a.cues a.text) ≡ standing cues (live cues b.text))) e told
 
@@ -176,14 +176,14 @@ account_few room (call ∷ calls) = after_few room (account room calls) call (ac
 pub calls_few : CallsFew
 calls_few room calls t = texts_few (account room calls).cues t (account_few room calls)
 
-after_alike : (roomA roomB : ℕ) (a : Account) (call : Call) → SameGrant roomA roomB call → after roomA a call ≡ after roomB a call
-after_alike roomA roomB a (loads cs) h = rw h refl
-after_alike roomA roomB a (takes s) h = refl
-after_alike roomA roomB a (follows ss free) h = refl
-after_alike roomA roomB a (resumes c k) h = refl
-after_alike roomA roomB a restarts h = refl
+after_alike : (room_a room_b : ℕ) (a : Account) (call : Call) → SameGrant room_a room_b call → after room_a a call ≡ after room_b a call
+after_alike room_a room_b a (loads cs) h = rw h refl
+after_alike room_a room_b a (takes s) h = refl
+after_alike room_a room_b a (follows ss free) h = refl
+after_alike room_a room_b a (resumes c k) h = refl
+after_alike room_a room_b a restarts h = refl
 
 pub rooms_alike : RoomsAlike
-rooms_alike roomA roomB [] h = refl
-rooms_alike roomA roomB (call ∷ calls) h =
-    after_alike roomA roomB (account roomA calls) call h.0 ∙ ap (λ a. after roomB a call) (rooms_alike roomA roomB calls h.1)
+rooms_alike room_a room_b [] h = refl
+rooms_alike room_a room_b (call ∷ calls) h =
+    after_alike room_a room_b (account room_a calls) call h.0 ∙ ap (λ a. after room_b a call) (rooms_alike room_a room_b calls h.1)

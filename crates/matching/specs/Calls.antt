@@ -142,9 +142,9 @@ SpentStep =
 -- two lists of calls that come to one book of 16-bit signs: one standing exactly when nothing put behind both texts tells them apart
 abbrev pub CallsTell : Type 0
 CallsTell =
-    (roomA roomB : ℕ) (calls_a callsB : List Call) →
-    let a : Account = account roomA calls_a in
-    let b : Account = account roomB callsB in
+    (room_a room_b : ℕ) (calls_a calls_b : List Call) →
+    let a : Account = account room_a calls_a in
+    let b : Account = account room_b calls_b in
     a.cues ≡ b.cues → AllByRecursion Signs a.cues →
     (stands a ≡ stands b → Alike a.cues a.text b.text) ×
     (Alike a.cues a.text b.text → stands a ≡ stands b)
@@ -168,12 +168,12 @@ CallsFew = (room : ℕ) (calls : List Call) (t : List ℕ) → length (sightings
 
 -- a load that two engines' rooms grant or deny alike
 abbrev pub SameGrant : ℕ → ℕ → Call → Type 0
-SameGrant roomA roomB (loads cs) = loadable roomA cs ≡ loadable roomB cs
-SameGrant roomA roomB (takes s) = Unit {0}
-SameGrant roomA roomB (follows ss free) = Unit {0}
-SameGrant roomA roomB (resumes c k) = Unit {0}
-SameGrant roomA roomB restarts = Unit {0}
+SameGrant room_a room_b (loads cs) = loadable room_a cs ≡ loadable room_b cs
+SameGrant room_a room_b (takes s) = Unit {0}
+SameGrant room_a room_b (follows ss free) = Unit {0}
+SameGrant room_a room_b (resumes c k) = Unit {0}
+SameGrant room_a room_b restarts = Unit {0}
 
 -- where each load is granted or denied alike, the calls come to one account
 abbrev pub RoomsAlike : Type 0
-RoomsAlike = (roomA roomB : ℕ) (calls : List Call) → AllByRecursion (SameGrant roomA roomB) calls → account roomA calls ≡ account roomB calls
+RoomsAlike = (room_a room_b : ℕ) (calls : List Call) → AllByRecursion (SameGrant room_a room_b) calls → account room_a calls ≡ account room_b calls
