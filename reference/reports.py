@@ -31,8 +31,8 @@ import types
 sys.dont_write_bytecode = True          # leave no files beside this one
 sys.path.insert(0, os.path.dirname(os.path.abspath(__file__)))
 
-from sheets import (Dice, NEWLINE, ODD_BYTES, cue_line, entry_line, frame,
-                    log_line, read_line_before_log, read_log_line,
+from sheets import (Dice, NEWLINE, cue_line, entry_line, frame, log_line,
+                    mutated_sheet, read_line_before_log, read_log_line,
                     refusal_line, replaced, total_line)
 
 # ---------------------------------------------------------------------------
@@ -871,40 +871,6 @@ def random_notes(dice, most_cues=6, most_length=5, most_text=50):
     return data + PART + bytes(text)
 
 
-def mutated(dice, data):
-    """One change to an input."""
-    lines = lines_of(data)
-    if len(lines) == 0:
-        return dice.pick([b"", b"\n", b"x", b"\n\n"])
-    choice = dice.below(11)
-    at = dice.below(len(data))
-    if choice == 0:                             # one bit of a byte
-        return replaced(data, at, data[at] ^ (1 << dice.below(8)))
-    if choice == 1:                             # any byte
-        return replaced(data, at, dice.below(256))
-    if choice == 2:                             # an odd byte
-        return replaced(data, at, dice.pick(ODD_BYTES))
-    if choice == 3:                             # a byte more
-        return data[:at] + bytes([dice.pick(ODD_BYTES + b"\n")]) + data[at:]
-    if choice == 4:                             # a byte less
-        return data[:at] + data[at + 1:]
-    if choice == 5:                             # cut off
-        return data[:at]
-    one = dice.below(len(lines))
-    two = dice.below(len(lines))
-    if choice == 6:                             # a line less
-        del lines[one]
-    elif choice == 7:                           # two lines change places
-        lines[one], lines[two] = lines[two], lines[one]
-    elif choice == 8:                           # a line twice
-        lines.insert(two, lines[one])
-    elif choice == 9:                           # an empty line more
-        lines.insert(one, b"\n")
-    else:                                       # another cue number
-        lines[one] = b"%4d" % dice.below(5) + lines[one][4:]
-    return b"".join(lines)
-
-
 def random_frames(frames, dice):
     for letter, make in [("A", random_airings), ("N", random_notes)]:
         for count in range(700):
@@ -912,12 +878,12 @@ def random_frames(frames, dice):
             frames.put(letter, data)
             if count < 500:
                 for _ in range(dice.between(1, 3)):
-                    data = mutated(dice, data)
+                    data = mutated_sheet(dice, data, empty_lines=True)
                 frames.put(letter, data)
         for _ in range(25):
             data = make(dice, 60, 12, 500)
             frames.put(letter, data)
-            frames.put(letter, mutated(dice, data))
+            frames.put(letter, mutated_sheet(dice, data, empty_lines=True))
 
 
 def all_frames():

@@ -119,11 +119,8 @@ def make_seconds(dice, events):
     return seconds
 
 
-def day():
-    dice = Dice(1930)
-    cues = make_cues(dice)
-    events = make_log_events(dice, cues)
-    seconds = make_seconds(dice, events)
+def input_of(cues, events, seconds):
+    """The cue sheet, the parting line and the log."""
     data = b""
     for number, cue in enumerate(cues):
         for kind, cart in cue:
@@ -131,6 +128,15 @@ def day():
     data += b"\n"
     for second, (kind, cart) in zip(seconds, events):
         data += log_line(second, kind, cart)
+    return data
+
+
+def day():
+    dice = Dice(1930)
+    cues = make_cues(dice)
+    events = make_log_events(dice, cues)
+    seconds = make_seconds(dice, events)
+    data = input_of(cues, events, seconds)
 
     # The sample must be granted as a whole, and every cue is in the log.
     answer = lines_of(airings(data))

@@ -14,72 +14,9 @@ import sys
 sys.dont_write_bytecode = True          # leave no files beside this one
 sys.path.insert(0, os.path.dirname(os.path.abspath(__file__)))
 
-from sheets import (Dice, MOST_INPUT, MOST_SECOND, cue_line, cuesheet,
-                    lines_of, log_line, read_log_line)
-
-LOG_EVENTS = 2000
-CUES = 40
-
-# What a station plays. Carts of one kind lie together, as on a real shelf.
-JINGLES = [("J", cart) for cart in (10, 11, 12, 15, 20, 21, 30, 40)]
-SPOTS = [("S", 2000 + cart) for cart in range(0, 90, 3)]
-MUSIC = [("M", 100000 + 137 * cart) for cart in range(160)]
-NEWS = [("N", 500 + cart) for cart in range(24)]
-VOICE = [("V", 70 + cart) for cart in range(12)]
-
-# How long an event of a kind takes, in seconds, roughly. A log of a day has
-# 2,000 events here, so the pieces of music are short ones.
-SECONDS = {"J": (4, 12), "S": (15, 40), "M": (60, 140), "N": (20, 90),
-           "V": (10, 45)}
-
-
-def fixed_cues():
-    """Cues as someone would write them: openers, breaks, and parts of them.
-    Some are a part, a beginning or an end of others."""
-    j, s, v, n = JINGLES, SPOTS, VOICE, NEWS
-    return [
-        [j[0], n[0], j[1]],                             # news with both jingles
-        [n[0], j[1]],                                   # its end
-        [j[0]],                                         # the opener alone
-        [j[2], s[0], s[1], s[2], j[3]],                 # a break of three spots
-        [s[0], s[1], s[2]],                             # the same, no jingles
-        [s[1], s[2]],
-        [s[2], j[3]],
-        [j[2], s[0], s[1]],
-        [j[2], s[0], s[0], s[1], j[3]],                 # a spot twice
-        [s[0], s[0]],
-        [j[4], j[4]],
-        [j[4], j[4], j[4]],
-        [j[0], v[0], j[0], v[1], j[0], v[0], j[0]],     # greetings
-        [j[0], v[0], j[0]],
-        [v[1], j[0], v[0]],
-        [v[0]],
-        [j[5], s[3], s[4], s[5], s[6], s[7], s[8], j[5]],   # the long break
-        [s[5], s[6], s[7]],
-        [s[7], s[8], j[5]],
-        [MUSIC[0], j[6], MUSIC[1]],
-        [j[6], MUSIC[1]],
-        [MUSIC[7]],
-    ]
-
-
-def make_cues(dice):
-    """The fixed cues and further ones by chance, no two of them the same."""
-    cues = fixed_cues()
-    while len(cues) < CUES:
-        length = dice.pick([1, 2, 2, 3, 3, 4, 5, 6, 7, 8])
-        if dice.below(3) == 0:
-            # A part of a cue that is there already, and one event more.
-            old = dice.pick(cues)
-            start = dice.below(len(old))
-            cue = old[start:start + 4] + [dice.pick(SPOTS + JINGLES)]
-        else:
-            cue = [dice.pick(dice.pick([JINGLES, SPOTS, SPOTS, NEWS, VOICE,
-                                        MUSIC]))
-                   for _ in range(length)]
-        if cue not in cues:
-            cues.append(cue)
-    return cues
+from sample_day import (JINGLES, LOG_EVENTS, MUSIC, NEWS, SPOTS, VOICE,
+                        input_of, make_cues, make_seconds)
+from sheets import Dice, MOST_INPUT, cuesheet, lines_of, read_log_line
 
 
 def make_log_events(dice, cues):
@@ -100,30 +37,12 @@ def make_log_events(dice, cues):
     return events[:LOG_EVENTS]
 
 
-def make_seconds(dice, events):
-    """Rising seconds, the first 0 and the last 86,399: the events get their
-    rough lengths, and these are stretched or shrunk to fill the day."""
-    starts = [0]
-    for kind, _ in events[:-1]:
-        starts.append(starts[-1] + dice.between(*SECONDS[kind]))
-    seconds = [start * MOST_SECOND // starts[-1] for start in starts]
-    assert all(a < b for a, b in zip(seconds, seconds[1:]))
-    assert seconds[0] == 0 and seconds[-1] == MOST_SECOND
-    return seconds
-
-
 def morning():
     dice = Dice(1930)
     cues = make_cues(dice)
     events = make_log_events(dice, cues)
     seconds = make_seconds(dice, events)
-    data = b""
-    for number, cue in enumerate(cues):
-        for kind, cart in cue:
-            data += cue_line(number, kind, cart)
-    data += b"\n"
-    for second, (kind, cart) in zip(seconds, events):
-        data += log_line(second, kind, cart)
+    data = input_of(cues, events, seconds)
 
     # The sample must be granted as a whole.
     assert len(data) <= MOST_INPUT

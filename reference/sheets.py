@@ -716,12 +716,12 @@ def random_sheet(dice):
     return data
 
 
-def mutated_sheet(dice, data):
-    """One change to a sheet."""
+def mutated_sheet(dice, data, empty_lines=False):
+    """One change to an input; with empty_lines also an empty line more."""
     lines = lines_of(data)
     if len(lines) == 0:
         return dice.pick([b"", b"\n", b"x", b"\n\n"])
-    choice = dice.below(10)
+    choice = dice.below(11 if empty_lines else 10)
     at = dice.below(len(data))
     if choice == 0:                             # one bit of a byte
         return replaced(data, at, data[at] ^ (1 << dice.below(8)))
@@ -743,6 +743,8 @@ def mutated_sheet(dice, data):
         lines[one], lines[two] = lines[two], lines[one]
     elif choice == 8:                           # a line twice
         lines.insert(two, lines[one])
+    elif choice == 9 and empty_lines:           # an empty line more
+        lines.insert(one, b"\n")
     else:                                       # another cue number
         lines[one] = b"%4d" % dice.below(5) + lines[one][4:]
     return b"".join(lines)

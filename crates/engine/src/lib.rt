@@ -18,10 +18,10 @@ pub trait Engine: Sized {
     // The greatest total of signs that the engine holds.
     const CAPACITY: usize;
 
-    // The same number in contracts.
+    // The same number in contracts; the prover holds the two equal in each engine.
     ghost CAPACITY: { ℕ };
 
-    // The capacity, for contracts.
+    // The capacity that `most` answers; in each engine it is that number too.
     ghost room: { ℕ };
 
     ghost cues: { Self → List (List ℕ) };
