@@ -18,11 +18,8 @@ pub trait Engine: Sized {
     // The greatest total of signs that the engine holds.
     const CAPACITY: usize;
 
-    // The same number in contracts; the prover holds the two equal in each engine.
+    // The same number in clauses; the prover holds the two equal in each engine.
     ghost CAPACITY: { ℕ };
-
-    // The capacity that `most` answers; in each engine it is that number too.
-    ghost room: { ℕ };
 
     ghost cues: { Self → List (List ℕ) };
 
@@ -30,13 +27,9 @@ pub trait Engine: Sized {
 
     ghost cost: { Self → ℕ };
 
-    // The capacity as an answer.
-    fn most() -> usize
-        ensures { result ≡ room };
-
     // Takes the cues of a book, with nothing live.
     fn load<E: Event>(&mut self, book: &Book<E>) -> Result<(), Refusal>
-        ensures value { result ≡ answer (load_refusal room (cue_signs (book_held book.now))) tt }
+        ensures value { result ≡ answer (load_refusal CAPACITY (cue_signs (book_held book.now))) tt }
         ensures held { MatchResult result (λ _. (cues self.new ≡ cue_signs (book_held book.now)) × (live self.new ≡ []) × (cost self.new ≡ 0)) (λ _. self.new ≡ self.old) };
 
     // One sign more: live becomes the longest beginning that ends the old one followed by the sign.

@@ -71,15 +71,15 @@ module _ {L : Type 0} (m : Ghosts L) (cues : List (List ℕ)) (ss : List ℕ) wh
       Turn m w cues ss taken old out count new r
   turn v w taken old out count before new r go lt short room same answer leads =
       let h = go.reached in
-      let few : (u : List ℕ) → length (sightings cues u) ≤ 32 = λ u. subst (λ c. length (sightings c u) ≤ 32) h.same_cues (calls_few m.room h.calls u) in
+      let few : (u : List ℕ) → length (sightings cues u) ≤ 32 = λ u. subst (λ c. length (sightings c u) ≤ 32) h.same_cues (calls_few m.CAPACITY h.calls u) in
       let one = round cues ss taken (length before) few lt short room in
-      let t = told (account m.room h.calls) cues (take taken ss) (drop taken ss) before new r h.same_cues h.same_text (answer h.calls h.after) in
+      let t = told (account m.CAPACITY h.calls) cues (take taken ss) (drop taken ss) before new r h.same_cues h.same_text (answer h.calls h.after) in
       let f = followed cues (take taken ss) (length before) (drop taken ss) in
       let es = entries cues (take taken ss) (length before) (drop taken ss) in
-      let moved : followed (account m.room h.calls).cues (account m.room h.calls).text (length before) (drop taken ss) ≡ f =
-      ap (λ c. followed c (account m.room h.calls).text (length before) (drop taken ss)) h.same_cues ∙ ap (λ x. followed cues x (length before) (drop taken ss)) h.same_text in
-      let text : (account m.room h.calls).text ++ take (followed (account m.room h.calls).cues (account m.room h.calls).text (length before) (drop taken ss)) (drop taken ss) ≡ take (taken + f) ss =
-      ap (λ x. x ++ take (followed (account m.room h.calls).cues (account m.room h.calls).text (length before) (drop taken ss)) (drop taken ss)) h.same_text ∙ (ap (λ n. take taken ss ++ take n (drop taken ss)) moved ∙ one.text) in
+      let moved : followed (account m.CAPACITY h.calls).cues (account m.CAPACITY h.calls).text (length before) (drop taken ss) ≡ f =
+      ap (λ c. followed c (account m.CAPACITY h.calls).text (length before) (drop taken ss)) h.same_cues ∙ ap (λ x. followed cues x (length before) (drop taken ss)) h.same_text in
+      let text : (account m.CAPACITY h.calls).text ++ take (followed (account m.CAPACITY h.calls).cues (account m.CAPACITY h.calls).text (length before) (drop taken ss)) (drop taken ss) ≡ take (taken + f) ss =
+      ap (λ x. x ++ take (followed (account m.CAPACITY h.calls).cues (account m.CAPACITY h.calls).text (length before) (drop taken ss)) (drop taken ss)) h.same_text ∙ (ap (λ n. take taken ss ++ take n (drop taken ss)) moved ∙ one.text) in
       let wrote : (out' : List ℕ) → out' ≡ out ++ flat_map entry_text (take r.written new) → (out' ≡ old ++ entry_lines (sign_runs cues [] (take (taken + f) ss))) × (count + r.written ≡ length (sign_runs cues [] (take (taken + f) ss))) =
       λ out' grown. written_more taken f old out out' count r.written es one.lists go.lines go.number t.written
       (grown ∙ ap (λ x. out ++ x) (ap (flat_map entry_text) t.list ∙ lines_of_entries es)) in

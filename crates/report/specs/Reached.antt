@@ -13,8 +13,8 @@ use Rattle.watch.specs.declared.watch.Watch.{Watch}
 pub record Reached {L : Type 0} (m : Ghosts L) (w : Watch L) (cues : List (List ℕ)) (text : List ℕ) : Type 0 where
   pub calls : List Call
   pub after : After m calls w
-  pub same_cues : (account m.room calls).cues ≡ cues
-  pub same_text : (account m.room calls).text ≡ text
+  pub same_cues : (account m.CAPACITY calls).cues ≡ cues
+  pub same_text : (account m.CAPACITY calls).text ≡ text
 
 -- The line of an entry.
 abbrev pub entry_text : Entry → List ℕ

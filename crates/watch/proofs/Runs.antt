@@ -46,28 +46,28 @@ pub not_refused : (room : ℕ) (cs : List (List ℕ)) → total cs ≤ room → 
 not_refused room cs fits few = grind (arith, le-ltb room (total cs) fits)
 
 module _ {L : Type 0} (m : Ghosts L) where
-  keeps : (calls : List Call) (w : Watch L) → After m calls w → Keeps m.room (account m.room calls) (m.cues w.engine) (m.live w.engine) w.len (m.cost w.engine)
-  keeps calls w h = (calls_kept m.room).1 _ _ _ _ _ h.holds
+  keeps : (calls : List Call) (w : Watch L) → After m calls w → Keeps m.CAPACITY (account m.CAPACITY calls) (m.cues w.engine) (m.live w.engine) w.len (m.cost w.engine)
+  keeps calls w h = (calls_kept m.CAPACITY).1 _ _ _ _ _ h.holds
 
   -- A new watch, with the empty book in its engine.
   pub begun : (w : Watch L) → m.cues w.engine ≡ [] → m.live w.engine ≡ [] → m.cost w.engine ≡ 0 → w.len ≡ 0 → After m [] w
   begun w none nothing free len =
-      record { holds = moved (calls_kept m.room).0 none nothing len free; book_cues = record { some_signs = refl; apart = refl; signs = tt } }
+      record { holds = moved (calls_kept m.CAPACITY).0 none nothing len free; book_cues = record { some_signs = refl; apart = refl; signs = tt } }
 
-  pub loaded : (v w : Watch L) (cs : List (List ℕ)) → BookCues cs → load_refused m.room cs ≡ None → m.cues w.engine ≡ cs → m.live w.engine ≡ [] → m.cost w.engine ≡ 0 → w.len ≡ 0 → Leads m v (loads cs) w
+  pub loaded : (v w : Watch L) (cs : List (List ℕ)) → BookCues cs → load_refused m.CAPACITY cs ≡ None → m.cues w.engine ≡ cs → m.live w.engine ≡ [] → m.cost w.engine ≡ 0 → w.len ≡ 0 → Leads m v (loads cs) w
   loaded v w cs ok why same none free len calls h =
-      let g = load_granted m.room cs why in
+      let g = load_granted m.CAPACITY cs why in
       record {
         holds = moved ((keeps calls v h).load cs g) same none len free;
-        book_cues = subst BookCues (sym (ap (λ b. (cond b (anew cs) (account m.room calls)).cues) g)) ok;
+        book_cues = subst BookCues (sym (ap (λ b. (cond b (anew cs) (account m.CAPACITY calls)).cues) g)) ok;
       }
 
-  pub not_loaded : (v w : Watch L) (cs : List (List ℕ)) (r : Refusal) → load_refused m.room cs ≡ Some r → w.engine ≡ v.engine → w.len ≡ v.len → Leads m v (loads cs) w
+  pub not_loaded : (v w : Watch L) (cs : List (List ℕ)) (r : Refusal) → load_refused m.CAPACITY cs ≡ Some r → w.engine ≡ v.engine → w.len ≡ v.len → Leads m v (loads cs) w
   not_loaded v w cs r why same len calls h =
-      let g = load_denied m.room cs r why in
+      let g = load_denied m.CAPACITY cs r why in
       record {
         holds = moved ((keeps calls v h).no_load cs g) (ap m.cues same) (ap m.live same) len (ap m.cost same);
-        book_cues = subst BookCues (sym (ap (λ b. (cond b (anew cs) (account m.room calls)).cues) g)) h.book_cues;
+        book_cues = subst BookCues (sym (ap (λ b. (cond b (anew cs) (account m.CAPACITY calls)).cues) g)) h.book_cues;
       }
 
   -- A sign is taken, or refused and nothing changed.
@@ -76,11 +76,11 @@ module _ {L : Type 0} (m : Ghosts L) where
   taken v w s l same went cheap len calls h =
       record {
         holds = moved ((keeps calls v h).step s (m.cost w.engine) l (omega (arith, cheap, ap length went))) same went len refl;
-        book_cues = subst BookCues (sym (take_cues m.room (account m.room calls) s)) h.book_cues;
+        book_cues = subst BookCues (sym (take_cues m.CAPACITY (account m.CAPACITY calls) s)) h.book_cues;
       }
 
   pub not_taken : (v : Watch L) (s : ℕ) → 9999999 ≤ v.len → Leads m v (takes s) v
-  not_taken v s l calls h = record { holds = (keeps calls v h).no_step s l; book_cues = subst BookCues (sym (take_cues m.room (account m.room calls) s)) h.book_cues }
+  not_taken v s l calls h = record { holds = (keeps calls v h).no_step s l; book_cues = subst BookCues (sym (take_cues m.CAPACITY (account m.CAPACITY calls) s)) h.book_cues }
 
   pub restarted : (v w : Watch L) → m.cues w.engine ≡ m.cues v.engine → m.live w.engine ≡ [] → m.cost w.engine ≡ 0 → w.len ≡ 0 → Leads m v restarts w
   restarted v w same none free len calls h = record { holds = moved (keeps calls v h).restart same none len free; book_cues = h.book_cues }
@@ -90,14 +90,14 @@ module _ {L : Type 0} (m : Ghosts L) where
   resumed v w s why same went free len calls h =
       record {
         holds = moved ((keeps calls v h).resume s.0 s.1 (resume_granted (m.cues v.engine) s why)) same went len free;
-        book_cues = subst BookCues (sym (resume_cues m.room (account m.room calls) s.0 s.1)) h.book_cues;
+        book_cues = subst BookCues (sym (resume_cues m.CAPACITY (account m.CAPACITY calls) s.0 s.1)) h.book_cues;
       }
 
   pub not_resumed : (v w : Watch L) (s : ℕ × ℕ) (r : Refusal) → resume_refusal (m.cues v.engine) s ≡ Some r → w.engine ≡ v.engine → w.len ≡ v.len → Leads m v (resumes s.0 s.1) w
   not_resumed v w s r why same len calls h =
       record {
         holds = moved ((keeps calls v h).no_resume s.0 s.1 (resume_denied (m.cues v.engine) s r why)) (ap m.cues same) (ap m.live same) len (ap m.cost same);
-        book_cues = subst BookCues (sym (resume_cues m.room (account m.room calls) s.0 s.1)) h.book_cues;
+        book_cues = subst BookCues (sym (resume_cues m.CAPACITY (account m.CAPACITY calls) s.0 s.1)) h.book_cues;
       }
 
   pub cues_right : (w : Watch L) → Always m w (λ a. m.cues w.engine ≡ a.cues)
@@ -112,11 +112,11 @@ module _ {L : Type 0} (m : Ghosts L) where
 
   pub listed_right : (w : Watch L) → Always m w Listed
   listed_right w calls h =
-      let a = account m.room calls in
+      let a = account m.CAPACITY calls in
       record { exactly = sightings_read a.cues a.text h.book_cues.some_signs; falling = sightings_fall a.cues a.text h.book_cues.apart }
 
   pub tells_right : (w : Watch L) → Always m w (λ a. (room : ℕ) (calls : List Call) → Tells a (account room calls))
-  tells_right w calls h room other same = calls_tell m.room room calls other same h.book_cues.signs
+  tells_right w calls h room other same = calls_tell m.CAPACITY room calls other same h.book_cues.signs
 
   standing_length : (cues : List (List ℕ)) (b : List ℕ) → (standing cues b).1 ≡ length b
   standing_length cues [] = refl
@@ -124,16 +124,16 @@ module _ {L : Type 0} (m : Ghosts L) where
 
   pub work_right : (w : Watch L) → Always m w (WorkBound (m.cost w.engine))
   work_right w calls h =
-      let a = account m.room calls in
+      let a = account m.CAPACITY calls in
       let s = standing_length a.cues (live a.cues a.text) in
       omega (arith, h.holds.cheap, ap length h.holds.same_live)
 
   -- What a watch after any calls may rely on: what is live is a beginning, and no text has over 32 sightings.
   pub fine : (w : Watch L) (calls : List Call) → After m calls w → (beginning (m.cues w.engine) (m.live w.engine) ≡ true) × ((t : List ℕ) → length (sightings (m.cues w.engine) t) ≤ 32)
   fine w calls h =
-      let a = account m.room calls in (
+      let a = account m.CAPACITY calls in (
         ap (λ cs. beginning cs (m.live w.engine)) h.holds.same_cues ∙ (ap (beginning a.cues) h.holds.same_live ∙ live_begins a.cues a.text),
-        λ t. subst (λ cs. length (sightings cs t) ≤ 32) (sym h.holds.same_cues) (calls_few m.room calls t),
+        λ t. subst (λ cs. length (sightings cs t) ≤ 32) (sym h.holds.same_cues) (calls_few m.CAPACITY calls t),
       )
 
   -- The signs of the events were followed.
@@ -143,7 +143,7 @@ module _ {L : Type 0} (m : Ghosts L) where
       Always m v (λ a. FollowAnswer a signs old new r) × Leads m v (follows signs (length old)) w
   followed_right v w signs old new r ended = (
     λ calls h.
-        let a = account m.room calls in
+        let a = account m.CAPACITY calls in
         let ok = fine v calls h in
         let e = ended ok.0 ok.1 in
         let b = m.live v.engine in

@@ -15,8 +15,8 @@ pub record BookCues (cues : List (List ℕ)) : Type 0 where
 -- The watch w is as these calls leave it, the latest first: what it holds is what the account of the
 -- calls comes to. A new watch is after no call, and each call leads on from there.
 pub record After {L : Type 0} (m : Ghosts L) (calls : List Call) (w : Watch L) : Type 0 where
-  pub holds : Holds (account m.room calls) (m.cues w.engine) (m.live w.engine) w.len (m.cost w.engine)
-  pub book_cues : BookCues (account m.room calls).cues
+  pub holds : Holds (account m.CAPACITY calls) (m.cues w.engine) (m.live w.engine) w.len (m.cost w.engine)
+  pub book_cues : BookCues (account m.CAPACITY calls).cues
 
 -- Whatever calls led to v, these and one call more lead to w.
 abbrev pub Leads : {L : Type 0} → Ghosts L → Watch L → Call → Watch L → Type 0
@@ -24,7 +24,7 @@ Leads m v call w = (calls : List Call) → After m calls v → After m (call ∷
 
 -- Whatever calls led to w, this holds of their account.
 abbrev pub Always : {L : Type 0} → Ghosts L → Watch L → (Account → Type 0) → Type 0
-Always m w P = (calls : List Call) → After m calls w → P (account m.room calls)
+Always m w P = (calls : List Call) → After m calls w → P (account m.CAPACITY calls)
 
 -- What is listed: exactly the cues that end the text that counts, by strictly falling length, so that
 -- each is listed once.

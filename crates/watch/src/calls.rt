@@ -28,11 +28,11 @@ impl<L: Engine> Watch<L> {
 
     // The cues of a book, with an empty text.
     pub fn load<E: Event>(&mut self, book: &Book<E>) -> Result<(), Refusal>
-        ensures value { result ≡ answer (load_refused L.Engine.room (cue_signs (book_held book.now))) tt }
+        ensures value { result ≡ answer (load_refused L.Engine.CAPACITY (cue_signs (book_held book.now))) tt }
         ensures leads { Leads L.Engine self.old (loads (cue_signs (book_held book.now))) self.new }
         ensures refused { OnErr result (self.new ≡ self.old) }
     {
-        if book.total() > L::most() {
+        if book.total() > L::CAPACITY {
             return Err(Refusal::OverCapacity);
         }
         if !has_few_endings(book) {

@@ -14,20 +14,11 @@ impl Engine for BitEngine {
 
     ghost CAPACITY = { 64 };
 
-    ghost room = { 64 };
-
     ghost cues = { cues_of };
 
     ghost live = { live_of };
 
     ghost cost = { cost_of };
-
-    fn most() -> usize
-        ensures room { result ≡ 64 }
-        ensures constant { result ≡ ⟦<BitEngine as Engine>⟧.CAPACITY }
-    {
-        Self::CAPACITY
-    }
 
     fn load<E: Event>(&mut self, book: &Book<E>) -> Result<(), Refusal> {
         let room = Self::CAPACITY;

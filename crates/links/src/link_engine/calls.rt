@@ -77,20 +77,11 @@ impl Engine for LinkEngine {
 
     ghost CAPACITY = { 1024 };
 
-    ghost room = { 1024 };
-
     ghost cues = { engine_cues };
 
     ghost live = { engine_live };
 
     ghost cost = { λ e. e.trials };
-
-    fn most() -> usize
-        ensures room { result ≡ 1024 }
-        ensures constant { result ≡ ⟦<LinkEngine as Engine>⟧.CAPACITY }
-    {
-        Self::CAPACITY
-    }
 
     fn load<E: Event>(&mut self, book: &Book<E>) -> Result<(), Refusal> {
         if book.total() > Self::CAPACITY {

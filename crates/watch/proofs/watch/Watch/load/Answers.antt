@@ -11,7 +11,7 @@ returns-in-Ok g c =
     let m = g.L.Engine in
     let cs = cue_signs (book_held c.args.book.now) in
     let told = c.in-Ok.ensures.held in
-    let why : load_refused m.room cs ≡ None = not_refused m.room cs (omega (arith, c.if-total-most.false, c.total.ensures.signs, c.most.ensures)) (sym c.if-not-has_few_endings.ensures) in
+    let why : load_refused m.CAPACITY cs ≡ None = not_refused m.CAPACITY cs (omega (arith, c.if-total-CAPACITY.false, c.total.ensures.signs, c.CAPACITY.ensures)) (sym c.if-not-has_few_endings.ensures) in
     record {
       value = ap (λ o. answer o tt) (sym why);
       leads = loaded m c.args.self.now _ cs (book_cues_of c.args.book.now) why told.0 told.1 told.2 refl;

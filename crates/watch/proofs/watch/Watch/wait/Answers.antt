@@ -15,7 +15,7 @@ returns-then-is_empty g c =
     let none = eqb-true _ _ (sym c.if-is_empty.ensures) in
     record {
       value = λ calls h. wait_none cues _ (long ∙ none);
-      earlier = λ calls h same. none_earlier_right (account g.L.Engine.room calls) cues None same (wait_none cues _ (long ∙ none));
+      earlier = λ calls h same. none_earlier_right (account g.L.Engine.CAPACITY calls) cues None same (wait_none cues _ (long ∙ none));
     }
 
 pub returns : goal.returns
@@ -24,8 +24,8 @@ returns g c =
     let long = cues_long c.args.book.now c.cues.result.now c.cues.ensures in
     let some : 0 < length cues = omega (arith, long, eqb-false (length c.cues.result.now) 0 (sym c.if-is_empty.ensures)) in
     let value : Always g.L.Engine c.args.self.now (λ a. Some c.max.result ≡ wait cues (stands a).1) = λ calls h.
-    let k = (stands (account g.L.Engine.room calls)).1 in
+    let k = (stands (account g.L.Engine.CAPACITY calls)).1 in
     let live : c.standing-live.result.1 ≡ k = ap (λ s. s.1) (c.standing-live.ensures.value calls h) in
     let e : c.max.result ≡ max 1 (shortest (length (get_or cues 0 [])) cues - k) = omega (arith, c.max.ensures, c.saturating_sub-least.ensures, c.shortest_cue.ensures, live) in
     ap (λ n. Some n) e ∙ wait_some cues k some in
-    record { value = value; earlier = λ calls h same. none_earlier_right (account g.L.Engine.room calls) cues (Some c.max.result) same (value calls h) }
+    record { value = value; earlier = λ calls h same. none_earlier_right (account g.L.Engine.CAPACITY calls) cues (Some c.max.result) same (value calls h) }
