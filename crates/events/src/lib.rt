@@ -7,6 +7,9 @@ ghost use Rattle.events.specs.Refused.{number_of};
 ghost use Rattle.events.specs.Sameness.{same_bytes};
 ghost use Rattle.std.proofs.Common.{rules};
 
+use std::error::Error;
+use std::fmt;
+
 // A kind of event, by its sameness. Every kind owes the three laws of an equivalence relation, and
 // all that is proved above a kind rests on these laws alone.
 pub trait Event {
@@ -33,9 +36,7 @@ impl Event for u8 {
     ghost transitive = { Prim.search rules };
 
     fn same(&self, other: &u8) -> bool {
-        let a = *self;
-        let b = *other;
-        a == b || (a >= 65 && a <= 90 && b == a + 32) || (b >= 65 && b <= 90 && a == b + 32)
+        self.eq_ignore_ascii_case(other)
     }
 }
 
@@ -98,3 +99,38 @@ impl Refusal {
         }
     }
 }
+
+// What is printed of a refusal; its number is what operators look up.
+impl fmt::Display for Refusal {
+    ghost use Rattle.std.specs.Prelude.{Some};
+    ghost use Rattle.events.specs.Words.{words_of};
+
+    ghost output = { λ r. Some (words_of r) };
+
+    fn fmt<W: fmt::Write>(&self, f: &mut fmt::Formatter<W>) -> fmt::Result {
+        match self {
+            Refusal::EmptyCue => f.write_str("the cue has no event"),
+            Refusal::LongCue => f.write_str("the cue has more than 32 events"),
+            Refusal::BehindMaterial => f.write_str("the cue ends behind the material"),
+            Refusal::BookFull => f.write_str("the book has no room for the cue"),
+            Refusal::SameCue => f.write_str("the book has a same cue"),
+            Refusal::OverCapacity => f.write_str("the cues have more signs than the engine holds"),
+            Refusal::ManyEndings => f.write_str("more than 32 cues end a cue"),
+            Refusal::NoSuchCue => f.write_str("there is no such cue"),
+            Refusal::BehindCue => f.write_str("the length is longer than the cue"),
+            Refusal::FullText => f.write_str("the text is full"),
+            Refusal::EndBelowLast => f.write_str("the end is below the last end"),
+            Refusal::BadLength => f.write_str("the length is 0, or over the end and 1"),
+            Refusal::Unreadable { column } => write!(
+                f,
+                "the line is not readable at column {column}"
+            ),
+            Refusal::Misnumbered => f.write_str(
+                "the cue number is neither the last one nor one more",
+            ),
+            Refusal::LongInput => f.write_str("the input has more than 32,768 bytes"),
+        }
+    }
+}
+
+impl Error for Refusal {}
