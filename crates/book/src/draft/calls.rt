@@ -37,8 +37,9 @@ impl<E: Event> Draft<E> {
         ensures cues { MatchResult result (λ _. draft_held self.new ≡ with_cue (draft_held self.old) (cue_at place len)) (λ _. self.new ≡ self.old) }
     {
         self.check(place, len)?;
-        let number = self.book.cues.len();
-        self.book.cues.push_reserved(Cue { place, len });
+        let cues = &mut self.book.cues;
+        let number = cues.len();
+        cues.push_reserved(Cue { place, len });
         Ok(number)
     }
 

@@ -14,17 +14,16 @@ use events::Event;
 use std::alloc::{AllocError, Global};
 
 // The sign of an event that is the same as none of the material.
-const NO_SIGN: u16 = 2048;
+const NO_SIGN: u16 = MATERIAL as u16;
 
 impl<E: Event> Material<E> {
     // The first 2,048 of the events, with their signs.
-    pub(crate) fn new(heap: Global, events: Vec<E>) -> Result<Material<E>, AllocError>
+    pub(crate) fn new(heap: Global, mut events: Vec<E>) -> Result<Material<E>, AllocError>
     where
         E: Drop,
         ensures events { IfOk result (λ m. m.events.items ≡ take 2048 events.items) }
         ensures signs { IfOk result (λ m. m.signs.items ≡ signs_of E.Event.same (take 2048 events.items) (take 2048 events.items)) }
     {
-        let mut events = events;
         events.truncate(MATERIAL);
         let signs = signs_of(heap, events.as_slice())?;
         Ok(Material { events, signs })
@@ -67,7 +66,7 @@ impl<E: Event> Material<E> {
     {
         self.events
             .iter()
-            .zip(self.signs.iter())
+            .zip(&self.signs)
             .enumerate()
             .position(|(i, (m, s))| usize::from(*s) == i && m.same(event))
     }
