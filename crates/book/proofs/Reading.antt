@@ -1,5 +1,5 @@
 -- What the specifications say by recursion on a list, in the library's words for what iterators find.
-use Rattle.std.proofs.Common.{◌≡◌, ℕ, ◌+◌, Bool, true, false, cond, ◌&&◌, ◌||◌, eqb, ltb, List, [], ◌∷◌, length, refl, ap, ⊎_elim, arith}
+use Rattle.std.proofs.Common.{◌≡◌, ℕ, ◌+◌, Bool, true, false, cond, ◌&&◌, ◌||◌, eqb, ltb, List, [], ◌∷◌, length, sym, refl, ap, ◌∙◌, ⊎_elim, arith}
 use Rattle.std.specs.List.{sum_by, position, position_or_len, list_any, enumerate_from, zip}
 use Rattle.std.specs.Option.{MatchOption}
 use Rattle.std.proofs.lemmas.List.Recursion.{is_sum_by, is_position_or_len}
@@ -17,25 +17,33 @@ pub listed_any : (signs : List ℕ) (cues : List Cue) (t : List ℕ) → listed 
 listed_any signs [] t = refl
 listed_any signs (c ∷ cues) t = ap (λ b. equal (part_of signs c) t || b) (listed_any signs cues t)
 
-pub first_place_position : {E : Type 0} (same : E → E → Bool) (ms : List E) (e : E) → first_place same ms e ≡ position_or_len (λ m. same m e) ms
+-- What a search for a place came to, where n stands for none.
+place_found : {X : Type 0} (p : X → Bool) (xs : List X) (n r : ℕ) → MatchOption (position p xs) (r ≡ n) (λ i. r ≡ i) → r ≡ cond (ltb (position_or_len p xs) (length xs)) (position_or_len p xs) n
+place_found p xs n r h =
+    ⊎_elim (λ (b : ltb (position_or_len p xs) (length xs) ≡ true). grind (arith, b, h)) (λ (b : ltb (position_or_len p xs) (length xs) ≡ false). grind (arith, b, h))
+    (cases_Bool (ltb (position_or_len p xs) (length xs)))
+
+first_place_position : {E : Type 0} (same : E → E → Bool) (ms : List E) (e : E) → first_place same ms e ≡ position_or_len (λ m. same m e) ms
 first_place_position same ms e = is_position_or_len (λ xs. first_place same xs e) (λ m. same m e) refl (λ m xs. grind arith) ms
 
--- A number is the sign of an event, if it is the place that a search finds.
+-- The sign of an event is the first place with a same event.
 pub sign_found : {E : Type 0} (same : E → E → Bool) (ms : List E) (e : E) (r : ℕ) → MatchOption (position (λ m. same m e) ms) (r ≡ 2048) (λ i. r ≡ i) → r ≡ sign_of same ms e
-sign_found same ms e r h = let p = first_place_position same ms e in
-    ⊎_elim (λ (b : ltb (position_or_len (λ m. same m e) ms) (length ms) ≡ true). grind (arith, b, p, h)) (λ (b : ltb (position_or_len (λ m. same m e) ms) (length ms) ≡ false). grind (arith, b, p, h)) (cases_Bool (ltb (position_or_len (λ m. same m e) ms) (length ms)))
+sign_found same ms e r h = place_found (λ m. same m e) ms 2048 r h ∙ ap (λ k. cond (ltb k (length ms)) k 2048) (sym (first_place_position same ms e))
 
--- Whether an event is at its own sign and the same as the given one, where all have their places.
-abbrev pub Own : {E : Type 0} → (E → E → Bool) → E → ℕ × (E × ℕ) → Bool
-Own same e q = eqb q.1.1 q.0 && same q.1.0 e
+-- Of a place, its event and its sign: the place is its own sign, and the event is the same as e.
+abbrev pub is_own : {E : Type 0} → (E → E → Bool) → E → ℕ × (E × ℕ) → Bool
+is_own same e q = eqb q.1.1 q.0 && same q.1.0 e
 
-look_prefix : {E : Type 0} (same : E → E → Bool) (e : E) (ms : List E) (signs : List ℕ) (i : ℕ) →
-    look_from same i ms signs e ≡ cond (ltb (position_or_len (Own same e) (enumerate_from i (zip ms signs))) (length (enumerate_from i (zip ms signs)))) (i + position_or_len (Own same e) (enumerate_from i (zip ms signs))) 2048
-look_prefix same e [] signs i = refl
-look_prefix same e (m ∷ ms) [] i = refl
-look_prefix same e (m ∷ ms) (s ∷ signs) i = grind (arith, look_prefix same e ms signs (i + 1))
+-- The places from i on, each with its event and its sign.
+abbrev pub places : {E : Type 0} → ℕ → List E → List ℕ → List (ℕ × (E × ℕ))
+places i ms signs = enumerate_from i (zip ms signs)
 
-pub look_found : {E : Type 0} (same : E → E → Bool) (ms : List E) (signs : List ℕ) (e : E) (r : ℕ) → MatchOption (position (Own same e) (enumerate_from 0 (zip ms signs))) (r ≡ 2048) (λ i. r ≡ i) → r ≡ look_from same 0 ms signs e
-look_found same ms signs e r h = let p = look_prefix same e ms signs 0 in
-    let b = position_or_len (Own same e) (enumerate_from 0 (zip ms signs)) in
-    ⊎_elim (λ (l : ltb b (length (enumerate_from 0 (zip ms signs))) ≡ true). grind (arith, l, p, h)) (λ (l : ltb b (length (enumerate_from 0 (zip ms signs))) ≡ false). grind (arith, l, p, h)) (cases_Bool (ltb b (length (enumerate_from 0 (zip ms signs)))))
+look_position : {E : Type 0} (same : E → E → Bool) (e : E) (ms : List E) (signs : List ℕ) (i : ℕ) →
+    look_from same i ms signs e ≡ cond (ltb (position_or_len (is_own same e) (places i ms signs)) (length (places i ms signs))) (position_or_len (is_own same e) (places i ms signs) + i) 2048
+look_position same e [] signs i = refl
+look_position same e (m ∷ ms) [] i = refl
+look_position same e (m ∷ ms) (s ∷ signs) i = grind (arith, look_position same e ms signs (i + 1))
+
+-- The sign that is looked up is the first place of its own.
+pub look_found : {E : Type 0} (same : E → E → Bool) (ms : List E) (signs : List ℕ) (e : E) (r : ℕ) → MatchOption (position (is_own same e) (places 0 ms signs)) (r ≡ 2048) (λ i. r ≡ i) → r ≡ look_from same 0 ms signs e
+look_found same ms signs e r h = let p = place_found (is_own same e) (places 0 ms signs) 2048 r h in let l = look_position same e ms signs 0 in grind (arith, p, l)

@@ -14,7 +14,7 @@ same_reason : (g : Over) (d : Draft g.row.E.Denot) (place len : ℕ) →
     Signed g.E.Event.same (draft_held d) → add_refused_by_signs (draft_held d) place len ≡ add_refused g.E.Event.same (draft_held d) place len
 same_reason g d place len signed =
     ap (λ there. add_refusal (length (vec_items d.book.material.events)) (vec_items d.book.cues) there place len)
-    (has_same_signs g.E.Event.same (record { reflexive = g.met.E.Event.reflexive; symmetric = g.met.E.Event.symmetric; transitive = g.met.E.Event.transitive }) _ _ (omega (arith, d.book.material.short, d.book.material.events.ok.0)) signed (vec_items d.book.cues) (cue_at place len))
+    (has_same_signs g.E.Event.same (search rules) _ _ (omega (arith, d.book.material.short, d.book.material.events.ok.0)) signed (vec_items d.book.cues) (cue_at place len))
 
 pub returns-in_err-check : goal.returns-in_err-check
 returns-in_err-check g c =
