@@ -14,11 +14,11 @@ pub record Held (E : Type 0) : Type 0 where
   pub signs : List ℕ
   pub cues : List Cue
 
-abbrev pub draft_held : {E : Type 0} → Draft E → Held E
-draft_held d = record { material = vec_items d.material; signs = vec_items d.signs; cues = vec_items d.cues }
-
 abbrev pub book_held : {E : Type 0} → Book E → Held E
-book_held b = record { material = vec_items b.material; signs = vec_items b.signs; cues = vec_items b.cues }
+book_held b = record { material = vec_items b.material.events; signs = vec_items b.material.signs; cues = vec_items b.cues }
+
+abbrev pub draft_held : {E : Type 0} → Draft E → Held E
+draft_held d = book_held d.book
 
 -- The cues of a book as lists of signs: what all matching is about.
 abbrev pub cue_signs : {E : Type 0} → Held E → List (List ℕ)

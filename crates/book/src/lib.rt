@@ -5,7 +5,8 @@
 mod cue;
 mod draft;
 mod entry;
-mod lists;
+pub mod limits;
+mod material;
 
 pub use cue::Cue;
 pub use draft::{Book, Draft};

@@ -24,8 +24,8 @@ granted room cs h = grind arith
 pub always_loadable : {E : Type 0} (b : Book E) → loadable 1024 (cue_signs (book_held b)) ≡ true
 always_loadable b =
     let w = book_within b in
-    let t = total_signs (vec_items b.signs) (vec_items b.cues) w in
-    endings_few 1024 (cue_signs (book_held b)) b.apart (parts_short (vec_items b.signs) (vec_items b.cues) w) ∙ le-leb (total (cue_signs (book_held b))) 1024 (omega (arith, t, b.bounded))
+    let t = total_signs (vec_items b.material.signs) (vec_items b.cues) w in
+    endings_few 1024 (cue_signs (book_held b)) b.apart (parts_short (vec_items b.material.signs) (vec_items b.cues) w) ∙ le-leb (total (cue_signs (book_held b))) 1024 (omega (arith, t, b.bounded))
 
 pub never_refused : {E : Type 0} (b : Book E) → load_refused 1024 (cue_signs (book_held b)) ≡ None
 never_refused b = granted 1024 (cue_signs (book_held b)) (always_loadable b)

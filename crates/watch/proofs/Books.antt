@@ -29,17 +29,17 @@ parts_signs : (signs : List ℕ) → Signs signs → (cues : List Cue) → AllBy
 parts_signs signs fit [] = tt
 parts_signs signs fit (c ∷ cues) = (All-take _ c.len _ (All-drop _ c.place _ fit), parts_signs signs fit cues)
 
-pub book_within : {E : Type 0} (b : Book E) → AllWithin (length (vec_items b.signs)) (vec_items b.cues)
-book_within b = subst (λ k. AllWithin k (vec_items b.cues)) (sym b.signed ∙ b.signs.ok.0) b.within
+pub book_within : {E : Type 0} (b : Book E) → AllWithin (length (vec_items b.material.signs)) (vec_items b.cues)
+book_within b = subst (λ k. AllWithin k (vec_items b.cues)) (sym b.material.signed ∙ b.material.signs.ok.0) b.within
 
 pub book_cues_of : {E : Type 0} (b : Book E) → BookCues (cue_signs (book_held b))
 book_cues_of b =
     record {
-      some_signs = parts_filled (vec_items b.signs) (vec_items b.cues) (book_within b);
+      some_signs = parts_filled (vec_items b.material.signs) (vec_items b.cues) (book_within b);
       apart = b.apart;
-      signs = parts_signs (vec_items b.signs) (signs_fit (vec_items b.signs) b.small) (vec_items b.cues);
+      signs = parts_signs (vec_items b.material.signs) (signs_fit (vec_items b.material.signs) b.material.small) (vec_items b.cues);
     }
 
 -- There are as many lists of signs as cues.
 pub cues_long : {E : Type 0} (b : Book E) (cues : List Cue) → cues ≡ vec_items b.cues → length (cue_signs (book_held b)) ≡ length cues
-cues_long b cues e = length-map (vec_items b.cues) (part_of (vec_items b.signs)) ∙ ap length (sym e)
+cues_long b cues e = length-map (vec_items b.cues) (part_of (vec_items b.material.signs)) ∙ ap length (sym e)

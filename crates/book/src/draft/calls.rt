@@ -1,25 +1,19 @@
 // The calls on a draft and on a book.
 
-ghost use Rattle.std.specs.Prelude.{◌≡◌, [], length, IfOk, MatchResult, slice_index_or};
+ghost use Rattle.std.specs.Prelude.{◌≡◌, [], length, IfOk, MatchResult, slice_index_or, vec_len};
 ghost use Rattle.matching.specs.Calls.{total as sign_total};
+ghost use Rattle.matching.specs.Match.{listed};
 ghost use Rattle.book.specs.Bridge.{CuesEnd, SignTells};
-ghost use Rattle.book.specs.Cues.{answer, cue_at, total};
+ghost use Rattle.book.specs.Cues.{answer, cue_at, part_of, total, Within};
 ghost use Rattle.book.specs.Held.{add_refused, add_refused_by_signs, begun, book_held, cue_signs, draft_held, lookup, Signed, with_cue};
 ghost use Rattle.book.specs.Signs.{sign_of};
 
 use crate::cue::Cue;
 use crate::draft::{Book, Draft};
-use crate::lists::{has_same, look_up, part_of, signs_of, total_of};
+use crate::limits::{BOOK_EVENTS, CUE_EVENTS, CUES};
+use crate::material::Material;
 use events::{Event, Refusal};
 use std::alloc::{AllocError, Global};
-
-const MATERIAL: usize = 2048;
-
-const CUES: usize = 128;
-
-const CUE_EVENTS: usize = 32;
-
-const BOOK_EVENTS: usize = 1024;
 
 impl<E: Event> Draft<E> {
     // A draft with no cue; its material is the first 2,048 of the events. It gets all the memory
@@ -29,14 +23,10 @@ impl<E: Event> Draft<E> {
         E: Drop,
         ensures { IfOk result (λ d. draft_held d ≡ begun E.Event.same events.items) }
     {
-        let mut material = events;
-        material.truncate(MATERIAL);
-        let signs = signs_of(heap, material.as_slice())?;
+        let material = Material::new(heap, events)?;
         let cues = Vec::with_capacity(heap, CUES)?;
         Ok(Draft {
-            material,
-            signs,
-            cues,
+            book: Book { material, cues },
         })
     }
 
@@ -46,38 +36,34 @@ impl<E: Event> Draft<E> {
         ensures same { Signed E.Event.same (draft_held self.old) → result ≡ answer (add_refused E.Event.same (draft_held self.old) place len) (length (draft_held self.old).cues) }
         ensures cues { MatchResult result (λ _. draft_held self.new ≡ with_cue (draft_held self.old) (cue_at place len)) (λ _. self.new ≡ self.old) }
     {
-        let number = self.cues.len();
-        match self.refusal(place, len) {
-            Some(refusal) => Err(refusal),
-            None => {
-                self.cues.push_reserved(Cue { place, len });
-                Ok(number)
-            }
-        }
+        self.check(place, len)?;
+        let cues = &mut self.book.cues;
+        let number = cues.len();
+        cues.push_reserved(Cue { place, len });
+        Ok(number)
     }
 
-    // Why this cue would be refused, if it would.
-    fn refusal(&self, place: usize, len: usize) -> Option<Refusal>
-        ensures { result ≡ add_refused_by_signs (draft_held self.now) place len }
+    // Whether this cue may be added, and why not.
+    fn check(&self, place: usize, len: usize) -> Result<(), Refusal>
+        ensures { result ≡ answer (add_refused_by_signs (draft_held self.now) place len) tt }
     {
         if len == 0 {
-            return Some(Refusal::EmptyCue);
+            return Err(Refusal::EmptyCue);
         }
         if len > CUE_EVENTS {
-            return Some(Refusal::LongCue);
+            return Err(Refusal::LongCue);
         }
-        let events = self.material.len();
+        let events = self.book.material().len();
         if len > events || place > events - len {
-            return Some(Refusal::BehindMaterial);
+            return Err(Refusal::BehindMaterial);
         }
-        if self.cues.len() == CUES || total_of(self.cues.as_slice()) + len > BOOK_EVENTS {
-            return Some(Refusal::BookFull);
+        if self.book.cues.len() == CUES || self.book.total() + len > BOOK_EVENTS {
+            return Err(Refusal::BookFull);
         }
-        let cue = Cue { place, len };
-        if has_same(self.signs.as_slice(), self.cues.as_slice(), cue) {
-            return Some(Refusal::SameCue);
+        if self.book.has_same(Cue { place, len }) {
+            return Err(Refusal::SameCue);
         }
-        None
+        Ok(())
     }
 
     // The book of these cues. The draft is gone.
@@ -85,16 +71,7 @@ impl<E: Event> Draft<E> {
         ensures held { book_held result ≡ draft_held self }
         ensures ends { Signed E.Event.same (book_held result) → CuesEnd E.Event.same (book_held result) }
     {
-        let Draft {
-            material,
-            signs,
-            cues,
-        } = self;
-        Book {
-            material,
-            signs,
-            cues,
-        }
+        self.book
     }
 }
 
@@ -104,8 +81,7 @@ impl<E: Event> Book<E> {
         ensures { book_held result ≡ begun E.Event.same [] }
     {
         Book {
-            material: Vec::new(heap),
-            signs: Vec::new(heap),
+            material: Material::empty(heap),
             cues: Vec::new(heap),
         }
     }
@@ -117,21 +93,21 @@ impl<E: Event> Book<E> {
         ensures lowest { Signed E.Event.same (book_held self.now) → result ≡ sign_of E.Event.same (book_held self.now).material event.now }
         ensures tells { SignTells E.Event.same (book_held self.now).material event.now }
     {
-        look_up(self.material.as_slice(), self.signs.as_slice(), event)
+        self.material.sign_of(event)
     }
 
     // The material.
     pub fn material(&self) -> &[E]
         ensures { result.now ≡ (book_held self.now).material }
     {
-        self.material.as_slice()
+        self.material.events()
     }
 
     // The signs of the material's events, in their order.
     pub fn signs(&self) -> &[u16]
         ensures { result.now ≡ (book_held self.now).signs }
     {
-        self.signs.as_slice()
+        self.material.signs()
     }
 
     // The cues by number.
@@ -145,11 +121,9 @@ impl<E: Event> Book<E> {
     pub fn cue_signs(&self, number: usize) -> &[u16]
         ensures { result.now ≡ slice_index_or (cue_signs (book_held self.now)) number [] }
     {
-        let signs = self.signs.as_slice();
-        if number < self.cues.len() {
-            part_of(signs, self.cues[number])
-        } else {
-            signs.split_at(0).0
+        match self.cues.get(number) {
+            Some(c) => self.material.part(*c),
+            None => &[],
         }
     }
 
@@ -158,6 +132,14 @@ impl<E: Event> Book<E> {
         ensures events { result ≡ total (book_held self.now).cues }
         ensures signs { result ≡ sign_total (cue_signs (book_held self.now)) }
     {
-        total_of(self.cues.as_slice())
+        self.cues.iter().map(|c| c.len).sum()
+    }
+
+    // Whether some cue has the signs of the given one.
+    fn has_same(&self, given: Cue) -> bool
+        requires { Within (vec_len self.now.material.events) given }
+        ensures { result ≡ listed (cue_signs (book_held self.now)) (part_of (book_held self.now).signs given) }
+    {
+        self.cues.iter().any(|c| self.material.is_same(*c, given))
     }
 }

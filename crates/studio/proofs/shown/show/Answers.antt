@@ -6,8 +6,8 @@ use Rattle.studio.specs.Show.{log_part, of_log, of_material, showing}
 use Rattle.studio.proofs.Telling.{in_place, of_whole, part_to, same_events}
 use Rattle.studio.proofs.shown.show.Goals as goal
 
-within : {E : Type 0} (b : Book E) → AllWithin (length (vec_items b.material)) (vec_items b.cues)
-within b = subst (λ (n : ℕ). AllWithin n (vec_items b.cues)) b.material.ok.0 b.within
+within : {E : Type 0} (b : Book E) → AllWithin (length (vec_items b.material.events)) (vec_items b.cues)
+within b = subst (λ (n : ℕ). AllWithin n (vec_items b.cues)) b.material.events.ok.0 b.within
 
 pub returns-then-behind-start : goal.returns-then-behind-start
 returns-then-behind-start g c =

@@ -1,16 +1,10 @@
-use Rattle.std.proofs.Common.{◌≡◌, ◌∙◌, arith, rules}
-use Rattle.events.specs.Sameness.{Lawful}
-use Rattle.book.specs.Held.{book_held, lookup}
+use Rattle.std.proofs.Common.{◌∙◌, arith, rules}
+use Rattle.book.specs.Held.{book_held}
 use Rattle.book.proofs.Tells.{lookup_sign, sign_tells}
 use Rattle.book.proofs.draft.Book.sign.Goals as goal
 
-pub returns : goal.returns
-returns g c =
-    let b = c.args.self.now in
-    let law : Lawful g.E.Event.same = record { reflexive = g.met.E.Event.reflexive; symmetric = g.met.E.Event.symmetric; transitive = g.met.E.Event.transitive } in
-    let value : c.look_up.result ≡ lookup g.E.Event.same (book_held b) c.args.event.now = search rules in
-    record {
-      value = value;
-      lowest = λ signed. value ∙ lookup_sign g.E.Event.same law (book_held b) signed c.args.event.now;
-      tells = sign_tells g.E.Event.same law _ (omega (arith, b.short, b.material.ok.0)) _;
-    }
+pub returns-clause-lowest : goal.returns-clause-lowest
+returns-clause-lowest g c = λ signed. c.sign_of.ensures ∙ lookup_sign g.E.Event.same (search rules) (book_held c.args.self.now) signed c.args.event.now
+
+pub returns-clause-tells : goal.returns-clause-tells
+returns-clause-tells g c = sign_tells g.E.Event.same (search rules) _ (omega (arith, c.args.self.now.material.short, c.args.self.now.material.events.ok.0)) _

@@ -1,15 +1,8 @@
-use Rattle.std.proofs.Common.{refl, arith}
+use Rattle.std.proofs.Common.{arith, rules}
 use Rattle.book.specs.Held.{draft_held}
 use Rattle.book.proofs.Tells.{cues_end}
 use Rattle.book.proofs.draft.Draft.seal.Goals as goal
 
-pub returns : goal.returns
-returns g c =
-    record {
-      held = refl;
-      ends =
-          cues_end g.E.Event.same
-          (record { reflexive = g.met.E.Event.reflexive; symmetric = g.met.E.Event.symmetric; transitive = g.met.E.Event.transitive })
-          (draft_held c.args.self)
-          (omega (arith, c.args.self.short, c.args.self.material.ok.0));
-    }
+pub returns-clause-ends : goal.returns-clause-ends
+returns-clause-ends g c =
+    cues_end g.E.Event.same (search rules) (draft_held c.args.self) (omega (arith, c.args.self.book.material.short, c.args.self.book.material.events.ok.0))
