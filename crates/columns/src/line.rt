@@ -6,17 +6,13 @@ ghost use Rattle.columns.specs.AsRuns.{values_of};
 ghost use Rattle.columns.specs.Fields.{number_below};
 ghost use Rattle.columns.specs.Lines.{first_line, lines_of, ended, seen, read_line, read_cue, read_log, bad_cue_column, bad_log_column, carts, event_from, event_of, cue_number_of, blank_field, kind_field, Whole, LineWritten, fields_of};
 
-use crate::asrun::AsRun;
+use crate::asrun::{AsRun, CARTS, SECONDS};
 use crate::field::read_number;
 use crate::kind::read_kind;
 use events::Refusal;
 
 // One more than the greatest number that a field may hold.
 const CUE_NUMBERS: u32 = 10_000;
-
-const SECONDS: u32 = 86_400;
-
-const CARTS: u32 = 1_000_000;
 
 // The part of the input that a line stands in.
 #[derive(Clone, Copy, PartialEq, Eq, Debug)]
@@ -28,7 +24,7 @@ pub enum Section {
 }
 
 // A line by its fields.
-#[derive(Clone, Copy)]
+#[derive(Clone, Copy, PartialEq, Eq, Debug)]
 pub enum Line<'a> {
     Cue {
         number: &'a [u8],
