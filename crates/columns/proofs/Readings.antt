@@ -10,7 +10,7 @@ use Rattle.columns.specs.declared.line.Section.TheVariants.{Cues, Log as LogSect
 use Rattle.columns.specs.declared.line.Line.{Line}
 use Rattle.columns.specs.Fields.{number_below}
 use Rattle.columns.specs.Kinds.{kind_in}
-use Rattle.columns.specs.Lines.{Fields, cue, log, columns, blank_field, kind_field, cue_numbers, seconds, carts, bad_cue_column, bad_log_column, ended, bad_column, read_as, read_cue, read_log, read_line, fields_of, seen, event_from, Whole}
+use Rattle.columns.specs.Lines.{Fields, cue, log, columns, blank_field, kind_field, cue_numbers, seconds, carts, bad_cue_column, bad_log_column, ended, bad_column, read_cue, read_log, read_line, fields_of, seen, event_from, Whole}
 
 pub kind_found : (f : List ℕ) → is_some (kind_in f) ≡ kind_field f
 kind_found f = grind arith

@@ -1,4 +1,4 @@
-use Rattle.std.proofs.Common.{◌≡◌, ◌+◌, true, is_some, arith}
+use Rattle.std.proofs.Common.{◌≡◌, ◌+◌, true, is_some}
 use Rattle.columns.specs.Fields.{number_below}
 use Rattle.columns.specs.Lines.{columns, ended, blank_field, kind_field, carts}
 use Rattle.columns.proofs.Readings.{kind_found, none_bad}

@@ -1,4 +1,4 @@
-use Rattle.std.proofs.Common.{◌≡◌, ◌∙◌, sym, ap, refl, arith}
+use Rattle.std.proofs.Common.{◌∙◌, sym, ap, arith}
 use Rattle.columns.specs.Lines.{read_line}
 use Rattle.columns.proofs.Readings.{cues_by, log_by, read_err, seen_err}
 use Rattle.columns.proofs.line.read_line.Goals as goal
