@@ -1,5 +1,6 @@
 -- Number fields: steps of the loops that read one, and that reading undoes writing.
 use Rattle.std.proofs.Common.{◌≡◌, ℕ, zero, suc, ◌+◌, ◌-◌, ◌*◌, ◌^◌, ◌<◌, ◌≤◌, true, false, cond, ◌&&◌, eqb, ltb, leb, List, [], ◌∷◌, ◌++◌, length, get_or, drop, replicate, IfSome, Some, None, decimal, Option, sym, refl, ap, ◌∙◌, subst, ⊎_elim, arith, rules}
+use Rattle.std.specs.List.{prefix_len}
 use Rattle.std.proofs.lemmas.Fmt.{decimal-digits_value, digits_value-decimal, digits_decimal, first_decimal, decimal_digit, decimal_nonempty}
 use Rattle.std.proofs.lemmas.List.{at_drop_more}
 use Rattle.std.proofs.lemmas.Str.Parse.{IsNumeralModel, numerals_by_fold}
@@ -7,11 +8,15 @@ use Rattle.std.proofs.lemmas.Bool.{cond_both, cond-true, le-leb, cases_lt}
 use Rattle.columns.specs.Fields.{unblanked, all_digits, numeral, value_from, digits_below, number_below, ReadsWritten}
 use Rattle.columns.specs.Written.{number_field}
 
-pub unblanked_blank : (xs : List ℕ) (i : ℕ) → i < length xs → get_or xs i 0 ≡ 32 → unblanked (drop i xs) ≡ unblanked (drop (i + 1) xs)
-unblanked_blank xs i h e = grind (arith, at_drop_more unblanked xs i 0 h)
-
-pub unblanked_other : (xs : List ℕ) (i : ℕ) → i < length xs → (get_or xs i 0 ≡ 32 → ⊥) → unblanked (drop i xs) ≡ drop i xs
-unblanked_other xs i h e = grind (arith, at_drop_more unblanked xs i 0 h, at_drop_more (λ ys. ys) xs i 0 h)
+-- the blanks in front are as many as stand before the first other byte
+pub unblanked_rest : (f : List ℕ) → drop (prefix_len (λ b. eqb b 32) f) f ≡ unblanked f
+unblanked_rest [] = refl
+unblanked_rest (b ∷ bs) =
+    let n = prefix_len (λ x. eqb x 32) bs in
+    elim (eqb b 32) as (λ v. drop (cond v (1 + n) 0) (b ∷ bs) ≡ cond v (unblanked bs) (b ∷ bs)) [
+      | true ↦ let k : 1 + n ≡ suc n = omega arith in ap (λ m. drop m (b ∷ bs)) k ∙ unblanked_rest bs
+      | false ↦ refl
+    ]
 
 pub value_grows : (n : ℕ) (ds : List ℕ) → n ≤ value_from n ds
 value_grows n [] = omega arith

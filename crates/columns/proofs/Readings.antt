@@ -1,5 +1,7 @@
 -- What a line that is read has: its number and its event.
-use Rattle.std.proofs.Common.{◌≡◌, ℕ, ◌<◌, ◌≤◌, true, eqb, List, is_some, IfOk, Some, None, Ok, Err, Option, Result, sym, refl, subst, arith}
+use Rattle.std.proofs.Common.{◌≡◌, ℕ, ◌+◌, true, false, eqb, List, is_some, IfOk, Some, None, Ok, Err, Option, Result, sym, refl, subst, arith}
+use Rattle.std.specs.Option.{option_map}
+use Rattle.std.specs.Result.{IsErrAnd}
 use Rattle.std.proofs.lemmas.Bool.{cond_both, eqb-true}
 use Rattle.events.specs.declared.Refusal.{Refusal}
 use Rattle.events.specs.declared.Refusal.TheVariants.{Unreadable}
@@ -7,13 +9,36 @@ use Rattle.columns.specs.declared.line.Section.{Section}
 use Rattle.columns.specs.declared.line.Section.TheVariants.{Cues, Log as LogSection}
 use Rattle.columns.specs.declared.line.Line.{Line}
 use Rattle.columns.specs.Fields.{number_below}
-use Rattle.columns.specs.Lines.{Fields, columns, blank_field, kind_field, cue_numbers, seconds, carts, bad_cue_column, bad_log_column, ended, read_as, read_cue, read_log, read_line, fields_of, seen, event_from, Whole}
+use Rattle.columns.specs.Kinds.{kind_in}
+use Rattle.columns.specs.Lines.{Fields, cue, log, columns, blank_field, kind_field, cue_numbers, seconds, carts, bad_cue_column, bad_log_column, ended, bad_column, read_cue, read_log, read_line, fields_of, seen, event_from, Whole}
 
-pub read_bad : (column bad : ℕ) (fields : Fields) → column ≡ bad → 0 < column → ◌≡◌ {A = Result Fields Refusal} (Err (Unreadable column)) (read_as bad fields)
-read_bad column bad fields e h = rw (← e) (grind arith)
+pub kind_found : (f : List ℕ) → is_some (kind_in f) ≡ kind_field f
+kind_found f = grind arith
 
-pub read_good : (column bad : ℕ) (fields : Fields) → column ≡ bad → column ≤ 0 → ◌≡◌ {A = Result Fields Refusal} (Ok fields) (read_as bad fields)
-read_good column bad fields e h = rw (← e) (grind arith)
+-- no field of a line is bad
+pub none_bad : (w limit : ℕ) (l : List ℕ) → ended (w + 9) l ≡ true → is_some (number_below limit (columns 1 w l)) ≡ true → blank_field (columns (w + 1) (w + 1) l) ≡ true → kind_field (columns (w + 2) (w + 2) l) ≡ true → blank_field (columns (w + 3) (w + 3) l) ≡ true → is_some (number_below carts (columns (w + 4) (w + 9) l)) ≡ true → bad_column w limit l ≡ None
+none_bad w limit l e n b k d c = grind arith
+
+-- these fields where no column is bad, else the refusal
+abbrev pub read_by : Option ℕ → Fields → Result Fields Refusal
+read_by None fields = Ok fields
+read_by (Some column) fields = Err (Unreadable column)
+
+pub read_err : (bad : Option ℕ) (fields : Fields) (e : Refusal) → option_map Unreadable bad ≡ Some e → read_by bad fields ≡ Err e
+read_err None fields e h = cc
+read_err (Some column) fields e h = cc
+
+pub seen_err : (r : Result Line Refusal) (e : Refusal) → IsErrAnd r (λ x. x ≡ e) → seen r ≡ Err e
+seen_err (Ok line) e h = absurd h
+seen_err (Err refusal) e h = grind arith
+
+pub cues_by : (l : List ℕ) → ended 0 l ≡ false → read_line Cues l ≡ read_by (bad_column 4 cue_numbers l) (cue (columns 1 4 l) (columns 6 6 l) (columns 8 13 l))
+unfolding read_line read_cue
+cues_by l h = grind arith
+
+pub log_by : (l : List ℕ) → read_line LogSection l ≡ read_by (bad_column 5 seconds l) (log (columns 1 5 l) (columns 7 7 l) (columns 9 14 l))
+unfolding read_line read_log
+log_by l = grind arith
 
 event_from_some : (s : Option ℕ) (kind : List ℕ) (c : Option ℕ) → is_some s ≡ true → kind_field kind ≡ true → is_some c ≡ true → is_some (event_from s kind c) ≡ true
 event_from_some None kind c hs hk hc = grind arith

@@ -1,6 +1,7 @@
 -- How the first line lies in an input, and the lines behind it.
-use Rattle.std.proofs.Common.{◌≡◌, ℕ, zero, suc, ◌+◌, ◌-◌, ◌^◌, ◌<◌, ◌≤◌, Bool, true, cond, not, ◌&&◌, eqb, leb, List, [], ◌∷◌, ◌++◌, length, get_or, take, drop, replicate, decimal, sym, refl, ap, ◌∙◌, arith}
-use Rattle.std.proofs.lemmas.List.{at_drop_more, take-append-drop}
+use Rattle.std.proofs.Common.{◌≡◌, ℕ, zero, suc, ◌+◌, ◌-◌, ◌^◌, ◌<◌, ◌≤◌, Bool, true, cond, not, ◌&&◌, eqb, ltb, leb, List, [], ◌∷◌, ◌++◌, length, take, drop, replicate, decimal, sym, refl, ap, ◌∙◌, arith}
+use Rattle.std.specs.List.{position_or_len}
+use Rattle.std.proofs.lemmas.List.{take-append-drop}
 use Rattle.std.proofs.lemmas.Bool.{cond_both}
 use Rattle.std.proofs.lemmas.Fmt.{digits_decimal}
 use Rattle.columns.specs.Fields.{all_digits}
@@ -8,9 +9,10 @@ use Rattle.columns.specs.Written.{number_field}
 use Rattle.columns.proofs.Numbers.{own}
 use Rattle.columns.specs.Lines.{first_line, lines_of}
 
--- steps of the loop that looks for the line's end
-pub first_more : (xs : List ℕ) (i : ℕ) → i < length xs → first_line (drop i xs) ≡ cond (eqb (get_or xs i 0) 10) (get_or xs i 0 ∷ []) (get_or xs i 0 ∷ first_line (drop (i + 1) xs))
-first_more xs i h = at_drop_more first_line xs i 0 h
+-- the first line ends behind the first byte 10
+pub first_length : (xs : List ℕ) → length (first_line xs) ≡ cond (ltb (position_or_len (λ b. eqb b 10) xs) (length xs)) (position_or_len (λ b. eqb b 10) xs + 1) (length xs)
+first_length [] = refl
+first_length (b ∷ bs) = let ih = first_length bs in grind (arith, ih)
 
 -- the first line is the front of the input
 pub first_front : (xs : List ℕ) → take (length (first_line xs)) xs ≡ first_line xs

@@ -1,46 +1,36 @@
--- Writing a number from its last digit: steps of the loop, and its two ends.
-use Rattle.std.proofs.Common.{◌≡◌, ℕ, ◌+◌, ◌-◌, ◌/◌, ◌%◌, ◌^◌, ◌<◌, ◌≤◌, leb, List, [], ◌∷◌, ◌++◌, length, drop, set, replicate, decimal, sym, ap, ◌∙◌, arith}
-use Rattle.std.proofs.lemmas.Fmt.{decimal_step, decimal_digit, decimal_nonempty}
-use Rattle.std.proofs.lemmas.List.{append-nil, append_assoc, drop_all, drop-set, length-append, length-drop, length-replicate}
-use Rattle.std.proofs.lemmas.Bool.{cond_both, cond-true, cond-false, le-leb, lt-leb}
+-- Writing a number from its last digit: a field of one digit, and a field with one digit more.
+use Rattle.std.proofs.Common.{◌≡◌, ℕ, ◌+◌, ◌-◌, ◌/◌, ◌%◌, ◌^◌, ◌<◌, ◌≤◌, leb, List, [], ◌∷◌, ◌++◌, length, replicate, decimal, sym, ap, ◌∙◌, arith}
+use Rattle.std.proofs.lemmas.Fmt.{decimal_step, decimal_digit}
+use Rattle.std.proofs.lemmas.List.{append_assoc, length_push, length-append, length-replicate}
+use Rattle.std.proofs.lemmas.Bool.{cond_both, cond-true, le-leb}
 use Rattle.columns.specs.Written.{number_field}
 
-pub written_none : (n : ℕ) (f : List ℕ) → decimal n ≡ decimal n ++ drop (length f) f
-written_none n f = sym (append-nil (decimal n)) ∙ ap (λ ys. decimal n ++ ys) (sym (drop_all (length f) f (omega arith)))
+pub digit_length : (n : ℕ) → n < 10 → length (decimal n) ≡ 1
+digit_length n h = ap length (decimal_digit n h)
 
--- one digit more in front of what is written
-digit_front : (at d : ℕ) (f : List ℕ) → 0 < at → at ≤ length f → drop (at - 1) (set f (at - 1) d) ≡ d ∷ drop at f
-digit_front at d f some le =
-    let k : at - 1 + 1 ≡ at = omega arith in
-    drop-set f (at - 1) d (omega arith) ∙ ap (λ m. d ∷ drop m f) k
+pub digits_length : (n : ℕ) → 10 ≤ n → n < 2 ^ 64 → length (decimal n) ≡ length (decimal (n / 10)) + 1
+digits_length n ten small = ap length (decimal_step n ten small) ∙ length_push (decimal (n / 10)) (48 + n % 10)
 
-pub written_more : (n left at : ℕ) (f : List ℕ) → 0 < at → 10 ≤ left → left < 2 ^ 64 → at ≤ length f → decimal n ≡ decimal left ++ drop at f → decimal n ≡ decimal (left / 10) ++ drop (at - 1) (set f (at - 1) (48 + left % 10))
-written_more n left at f some ten small le e =
-    let d = 48 + left % 10 in
-    let whole : decimal left ++ drop at f ≡ decimal (left / 10) ++ (d ∷ drop at f) =
-    ap (λ ds. ds ++ drop at f) (decimal_step left ten small) ∙ append_assoc (decimal (left / 10)) (d ∷ []) (drop at f) in
-    e ∙ (whole ∙ ap (λ ys. decimal (left / 10) ++ ys) (sym (digit_front at d f some le)))
-
--- digits are left, and no column
-pub written_wide : (n left at : ℕ) (f : List ℕ) → at ≡ 0 → left < 2 ^ 64 → decimal n ≡ decimal left ++ drop at f → number_field (length f) n ≡ replicate (length f) 42
+pub digit_written : (w n : ℕ) → n < 10 → replicate w 32 ++ ((48 + n % 10) ∷ []) ≡ number_field (w + 1) n
 unfolding number_field
-written_wide n left at f none small e =
-    let some = decimal_nonempty left small in
-    let k : length (decimal n) ≡ length (decimal left) + (length f - at) = ap length e ∙ (length-append (decimal left) (drop at f) ∙ ap (λ m. length (decimal left) + m) (length-drop at f)) in
-    let less : length f < length (decimal n) = omega arith in
-    cond-false _ _ _ (lt-leb _ _ less)
+digit_written w n h =
+    let fits : length (decimal n) ≤ w + 1 = omega (arith, digit_length n h) in
+    let k : w ≡ w + 1 - length (decimal n) = omega (arith, digit_length n h) in
+    let d : n % 10 ≡ n = omega arith in
+    ap (λ m. replicate w 32 ++ ((48 + m) ∷ [])) d
+    ∙ (ap (λ ds. replicate w 32 ++ ds) (sym (decimal_digit n h)) ∙ (ap (λ m. replicate m 32 ++ decimal n) k ∙ sym (cond-true _ _ _ (le-leb _ _ fits))))
 
--- one digit is left, and a column for it
-pub written_all : (n left at : ℕ) (f : List ℕ) → 0 < at → left < 10 → at ≤ length f → decimal n ≡ decimal left ++ drop at f → number_field (length f) n ≡ replicate (at - 1) 32 ++ drop (at - 1) (set f (at - 1) (48 + left))
+pub digits_written : (w n : ℕ) → 10 ≤ n → n < 2 ^ 64 → length (decimal (n / 10)) ≤ w → number_field w (n / 10) ++ ((48 + n % 10) ∷ []) ≡ number_field (w + 1) n
 unfolding number_field
-written_all n left at f some one le e =
-    let d : decimal n ≡ (48 + left) ∷ drop at f = e ∙ ap (λ ds. ds ++ drop at f) (decimal_digit left one) in
-    let k : length (decimal n) ≡ 1 + (length f - at) = ap length d ∙ omega (arith, length-drop at f) in
-    let m : length f - length (decimal n) ≡ at - 1 = omega arith in
-    let front : replicate (length f - length (decimal n)) 32 ++ decimal n ≡ replicate (at - 1) 32 ++ drop (at - 1) (set f (at - 1) (48 + left)) =
-    ap (λ j. replicate j 32 ++ decimal n) m ∙ ap (λ ys. replicate (at - 1) 32 ++ ys) (d ∙ sym (digit_front at (48 + left) f some le)) in
-    let fits : length (decimal n) ≤ length f = omega arith in
-    cond-true _ _ _ (le-leb _ _ fits) ∙ front
+digits_written w n ten small le =
+    let m : ℕ = n / 10 in
+    let d : List ℕ = (48 + n % 10) ∷ [] in
+    let fits : length (decimal n) ≤ w + 1 = omega (arith, digits_length n ten small) in
+    let k : w - length (decimal m) ≡ w + 1 - length (decimal n) = omega (arith, digits_length n ten small) in
+    ap (λ ys. ys ++ d) (cond-true _ _ _ (le-leb _ _ le))
+    ∙ (append_assoc (replicate (w - length (decimal m)) 32) (decimal m) d
+    ∙ (ap (λ ys. replicate (w - length (decimal m)) 32 ++ ys) (sym (decimal_step n ten small))
+    ∙ (ap (λ j. replicate j 32 ++ decimal n) k ∙ sym (cond-true _ _ _ (le-leb _ _ fits)))))
 
 pub length_number : (width n : ℕ) → length (number_field width n) ≡ width
 unfolding number_field

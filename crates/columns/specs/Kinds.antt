@@ -1,7 +1,8 @@
 -- The kinds of as-run event by their letters.
-use Rattle.std.specs.Prelude.{ℕ, Bool, cond, ◌||◌, List, length, Some, None, Option, ◌==◌, slice_index}
+use Rattle.std.specs.Prelude.{◌≡◌, ℕ, Bool, false, cond, ◌||◌, List, length, Some, None, Option, Result, MatchResult, ◌==◌, slice_index}
 use Rattle.columns.specs.declared.kind.Kind.{Kind}
 use Rattle.columns.specs.declared.kind.Kind.TheVariants.{Spot, Jingle, Music, News, Voice}
+use Rattle.columns.specs.declared.kind.UnknownLetter.{UnknownLetter}
 
 -- The letter of a kind: S, J, M, N, V.
 abbrev pub letter_of : Kind → ℕ
@@ -27,3 +28,7 @@ kind_of b =
 -- The kind in a field of one letter.
 abbrev pub kind_in : List ℕ → Option Kind
 kind_in f = cond (length f == 1) (kind_of (slice_index f 0)) None
+
+-- The kind with this letter, or an error with this byte where no kind has it.
+abbrev pub HasLetter : ℕ → Result Kind UnknownLetter → Type 0
+HasLetter letter r = MatchResult r (λ kind. letter_of kind ≡ letter) (λ e. (e.0 ≡ letter) × (kind_letter letter ≡ false))

@@ -52,6 +52,27 @@ carts = 1000000
 abbrev pub cue_numbers : ℕ
 cue_numbers = 10000
 
+-- A line of n columns, ended by byte 10.
+abbrev pub ended : ℕ → List ℕ → Bool
+ended n l = length l == n + 1 && slice_index l n == 10
+
+-- Both lines: a number below the limit in the first w columns, blank, kind, blank, cart of six columns, byte 10.
+-- The column that such a line is refused at, where it is: 0 for a wrong length, else the first column of the
+-- leftmost bad field.
+abbrev pub bad_column : ℕ → ℕ → List ℕ → Option ℕ
+bad_column w limit l =
+    cond (not (ended (w + 9) l)) (Some 0)
+    (cond (not (is_some (number_below limit (columns 1 w l)))) (Some 1)
+    (cond (not (blank_field (columns (w + 1) (w + 1) l))) (Some (w + 1))
+    (cond (not (kind_field (columns (w + 2) (w + 2) l))) (Some (w + 2))
+    (cond (not (blank_field (columns (w + 3) (w + 3) l))) (Some (w + 3))
+    (cond (not (is_some (number_below carts (columns (w + 4) (w + 9) l)))) (Some (w + 4)) None)))))
+
+-- Its number, kind and cart.
+abbrev pub AreFields : ℕ → List ℕ → List ℕ → List ℕ → List ℕ → Type 0
+AreFields w l number kind cart =
+    (number ≡ columns 1 w l) × (kind ≡ columns (w + 2) (w + 2) l) × (cart ≡ columns (w + 4) (w + 9) l)
+
 -- The first column of the leftmost bad field, 0 where none is bad. Each field is bad or good by itself.
 -- Cue line: cue number 1 to 4, blank 5, kind 6, blank 7, cart 8 to 13.
 abbrev pub bad_cue_column : List ℕ → ℕ
@@ -70,10 +91,6 @@ bad_log_column l =
     (cond (not (kind_field (columns 7 7 l))) 7
     (cond (not (blank_field (columns 8 8 l))) 8
     (cond (not (is_some (number_below carts (columns 9 14 l)))) 9 0))))
-
--- A line of n columns, ended by byte 10.
-abbrev pub ended : ℕ → List ℕ → Bool
-ended n l = length l == n + 1 && slice_index l n == 10
 
 -- These fields where no column is bad, else the bad column.
 abbrev pub read_as : ℕ → Fields → Result Fields Refusal

@@ -1,22 +1,19 @@
 // Lines of the input: where one ends, and what it is read as.
 
-ghost use Rattle.std.specs.Prelude.{◌≡◌, ◌<◌, ◌∷◌, length, drop, is_some, IfOk, Some};
+ghost use Rattle.std.specs.Prelude.{◌≡◌, ◌+◌, ◌<◌, ◌≤◌, ◌∷◌, true, false, length, drop, IfOk, MatchResult, Some, None};
+ghost use Rattle.events.specs.declared.Refusal.TheVariants.{Unreadable};
 ghost use Rattle.std.specs.Option.{option_map};
 ghost use Rattle.columns.specs.AsRuns.{values_of};
 ghost use Rattle.columns.specs.Fields.{number_below};
-ghost use Rattle.columns.specs.Lines.{first_line, lines_of, ended, seen, read_line, read_cue, read_log, bad_cue_column, bad_log_column, carts, event_from, event_of, cue_number_of, blank_field, kind_field, Whole, LineWritten, fields_of};
+ghost use Rattle.columns.specs.Lines.{first_line, lines_of, ended, seen, read_line, bad_column, carts, columns, event_from, event_of, cue_number_of, blank_field, Whole, LineWritten, AreFields, fields_of};
 
-use crate::asrun::AsRun;
+use crate::asrun::{AsRun, CARTS, SECONDS};
 use crate::field::read_number;
 use crate::kind::read_kind;
 use events::Refusal;
 
 // One more than the greatest number that a field may hold.
 const CUE_NUMBERS: u32 = 10_000;
-
-const SECONDS: u32 = 86_400;
-
-const CARTS: u32 = 1_000_000;
 
 // The part of the input that a line stands in.
 #[derive(Clone, Copy, PartialEq, Eq, Debug)]
@@ -28,7 +25,7 @@ pub enum Section {
 }
 
 // A line by its fields.
-#[derive(Clone, Copy)]
+#[derive(Clone, Copy, PartialEq, Eq, Debug)]
 pub enum Line<'a> {
     Cue {
         number: &'a [u8],
@@ -49,17 +46,8 @@ impl Line<'_> {
         ensures { option_map values_of result ≡ event_of (fields_of self.now) }
     {
         match *self {
-            Line::Cue {
-                number: _,
-                kind,
-                cart,
-            } => event_at(0, kind, cart),
-            Line::Log { second, kind, cart } => {
-                let Some(second) = read_number(second, SECONDS) else {
-                    return None;
-                };
-                event_at(second, kind, cart)
-            }
+            Line::Cue { kind, cart, .. } => event_at(0, kind, cart),
+            Line::Log { second, kind, cart } => event_at(read_number(second, SECONDS)?, kind, cart),
             Line::Parting => None,
         }
     }
@@ -69,14 +57,8 @@ impl Line<'_> {
         ensures { result ≡ cue_number_of (fields_of self.now) }
     {
         match *self {
-            Line::Cue {
-                number,
-                kind: _,
-                cart: _,
-            } => {
-                let Some(n) = read_number(number, CUE_NUMBERS) else {
-                    return None;
-                };
+            Line::Cue { number, .. } => {
+                let n = read_number(number, CUE_NUMBERS)?;
                 Some(n as u16)
             }
             _ => None,
@@ -86,15 +68,11 @@ impl Line<'_> {
 
 // The event that began in this second, by its other two fields.
 fn event_at(second: u32, kind: &[u8], cart: &[u8]) -> Option<AsRun>
-    requires { second < 86400 }
+    requires { second < SECONDS }
     ensures { option_map values_of result ≡ event_from (Some second) kind.now (number_below carts cart.now) }
 {
-    let Some(cart) = read_number(cart, CARTS) else {
-        return None;
-    };
-    let Some(kind) = read_kind(kind) else {
-        return None;
-    };
+    let cart = read_number(cart, CARTS)?;
+    let kind = read_kind(kind)?;
     Some(AsRun::new(second, kind, cart))
 }
 
@@ -112,37 +90,77 @@ pub fn split_line(input: &[u8]) -> (&[u8], &[u8])
 fn line_length(input: &[u8]) -> usize
     ensures { result ≡ length (first_line input.now) }
 {
-    for (i, b) in input.iter().enumerate() {
-        if *b == b'\n' {
-            return i + 1;
-        }
-    }
-    input.len()
+    input
+        .iter()
+        .position(|b| *b == b'\n')
+        .map_or(input.len(), |i| i + 1)
 }
 
 // What a line of this section is read as. A refusal has column 0 for a wrong length, else the first
 // column of the leftmost bad field.
+#[tactic(auto, using(crate::proofs::Texts::line_written))]
 pub fn read_line<'a>(section: Section, line: &'a [u8]) -> Result<Line<'a>, Refusal>
     ensures value { seen result ≡ read_line section line.now }
     ensures events { IfOk result (λ l. Whole (fields_of l)) }
     ensures written { LineWritten section line.now }
 {
     match section {
+        Section::Cues if is_ended(line, 0) => Ok(Line::Parting),
         Section::Cues => {
-            if is_ended(line, 0) {
-                return Ok(Line::Parting);
-            }
-            if is_ended(line, 13) {
-                return read_cue(line);
-            }
+            let (number, kind, cart) = read_fields(line, 4, CUE_NUMBERS)?;
+            Ok(Line::Cue { number, kind, cart })
         }
         Section::Log => {
-            if is_ended(line, 14) {
-                return read_log(line);
-            }
+            let (second, kind, cart) = read_fields(line, 5, SECONDS)?;
+            Ok(Line::Log { second, kind, cart })
         }
     }
-    Err(Refusal::Unreadable { column: 0 })
+}
+
+// The number, kind and cart of a line that has, from its first column on, a number below the limit in this
+// many columns, a blank, a kind, a blank and a cart in six columns, and byte 10 behind them.
+fn read_fields<'a>(
+    line: &'a [u8],
+    width: u8,
+    limit: u32,
+) -> Result<(&'a [u8], &'a [u8], &'a [u8]), Refusal>
+    requires { width < 10 }
+    ensures { MatchResult result (λ f. (bad_column width limit line.now ≡ None) × AreFields width line.now f.0.now f.1.now f.2.now) (λ e. option_map Unreadable (bad_column width limit line.now) ≡ Some e) }
+{
+    let at = usize::from(width);
+    if !is_ended(line, at + 9) {
+        return Err(Refusal::Unreadable { column: 0 });
+    }
+    let number = columns(line, 1, at);
+    let kind = columns(line, at + 2, at + 2);
+    let cart = columns(line, at + 4, at + 9);
+    good_or(read_number(number, limit).is_some(), 1)?;
+    good_or(is_blank(columns(line, at + 1, at + 1)), width + 1)?;
+    good_or(read_kind(kind).is_some(), width + 2)?;
+    good_or(is_blank(columns(line, at + 3, at + 3)), width + 3)?;
+    good_or(read_number(cart, CARTS).is_some(), width + 4)?;
+    Ok((number, kind, cart))
+}
+
+// Columns a to b, counted from 1.
+fn columns(line: &[u8], a: usize, b: usize) -> &[u8]
+    requires first { 0 < a }
+    requires forward { a ≤ b + 1 }
+    requires within { b ≤ length line.now }
+    ensures { result.now ≡ columns a b line.now }
+{
+    &line[a - 1..b]
+}
+
+// A refusal at this column where the field that begins there is bad.
+fn good_or(is_good: bool, column: u8) -> Result<(), Refusal>
+    ensures { MatchResult result (λ _. is_good ≡ true) (λ e. (is_good ≡ false) × (e ≡ Unreadable column)) }
+{
+    if is_good {
+        Ok(())
+    } else {
+        Err(Refusal::Unreadable { column })
+    }
 }
 
 // Whether the line has this many columns and byte 10 behind them.
@@ -150,101 +168,11 @@ fn is_ended(line: &[u8], columns: usize) -> bool
     requires { columns < 100 }
     ensures { result ≡ ended columns line.now }
 {
-    line.len() == columns + 1 && line[columns] == b'\n'
-}
-
-// Cue number 1 to 4, blank 5, kind 6, blank 7, cart 8 to 13.
-fn read_cue<'a>(line: &'a [u8]) -> Result<Line<'a>, Refusal>
-    requires { length line.now ≡ 14 }
-    ensures { seen result ≡ read_cue line.now }
-{
-    let column = bad_cue_column(line);
-    if column > 0 {
-        return Err(Refusal::Unreadable { column });
-    }
-    Ok(Line::Cue {
-        number: &line[0..4],
-        kind: &line[5..6],
-        cart: &line[7..13],
-    })
-}
-
-// Second 1 to 5, blank 6, kind 7, blank 8, cart 9 to 14.
-fn read_log<'a>(line: &'a [u8]) -> Result<Line<'a>, Refusal>
-    requires { length line.now ≡ 15 }
-    ensures { seen result ≡ read_log line.now }
-{
-    let column = bad_log_column(line);
-    if column > 0 {
-        return Err(Refusal::Unreadable { column });
-    }
-    Ok(Line::Log {
-        second: &line[0..5],
-        kind: &line[6..7],
-        cart: &line[8..14],
-    })
-}
-
-// The first column of the leftmost bad field of a cue line; 0 if there is none.
-fn bad_cue_column(line: &[u8]) -> u8
-    requires { length line.now ≡ 14 }
-    ensures { result ≡ bad_cue_column line.now }
-{
-    if !is_number(&line[0..4], CUE_NUMBERS) {
-        return 1;
-    }
-    if !is_blank(&line[4..5]) {
-        return 5;
-    }
-    if !is_kind(&line[5..6]) {
-        return 6;
-    }
-    if !is_blank(&line[6..7]) {
-        return 7;
-    }
-    if !is_number(&line[7..13], CARTS) {
-        return 8;
-    }
-    0
-}
-
-// The first column of the leftmost bad field of a log line; 0 if there is none.
-fn bad_log_column(line: &[u8]) -> u8
-    requires { length line.now ≡ 15 }
-    ensures { result ≡ bad_log_column line.now }
-{
-    if !is_number(&line[0..5], SECONDS) {
-        return 1;
-    }
-    if !is_blank(&line[5..6]) {
-        return 6;
-    }
-    if !is_kind(&line[6..7]) {
-        return 7;
-    }
-    if !is_blank(&line[7..8]) {
-        return 8;
-    }
-    if !is_number(&line[8..14], CARTS) {
-        return 9;
-    }
-    0
-}
-
-fn is_number(field: &[u8], limit: u32) -> bool
-    ensures { result ≡ is_some (number_below limit field.now) }
-{
-    read_number(field, limit).is_some()
+    line.len() == columns + 1 && line.ends_with(b"\n")
 }
 
 fn is_blank(field: &[u8]) -> bool
     ensures { result ≡ blank_field field.now }
 {
-    field.len() == 1 && field[0] == b' '
-}
-
-fn is_kind(field: &[u8]) -> bool
-    ensures { result ≡ kind_field field.now }
-{
-    read_kind(field).is_some()
+    matches!(field, [b' '])
 }

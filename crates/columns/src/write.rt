@@ -1,28 +1,33 @@
 // The lines that the programs write.
 
-ghost use Rattle.std.specs.Prelude.{◌≡◌, length};
+ghost use Rattle.std.specs.Prelude.{◌≡◌, IsTrue, nat_le, length, decimal};
 ghost use Rattle.columns.specs.Written.{number_field, entry_line, total_line, refusal_line};
 
 // Writes a number into a field: its decimal digits at the end and blanks in front, or `*` in every
 // column if the field is too narrow.
+#[tactic(auto, unfolding(crate::specs::Written::number_field))]
 pub fn write_number(field: &mut [u8], n: u64)
     ensures { field.new ≡ number_field (length field.old) n }
 {
-    let mut at = field.len();
-    let mut left = n;
-    while at > 0 && left >= 10 {
-        at -= 1;
-        field[at] = b'0' + (left % 10) as u8;
-        left /= 10;
-    }
-    if at == 0 {
+    if !write_digits(field, n) {
         field.fill(b'*');
-        return;
     }
-    at -= 1;
-    field[at] = b'0' + left as u8;
-    let blanks = &mut field[0..at];
-    blanks.fill(b' ');
+}
+
+// Writes the digits into the last columns and blanks in front, or answers that the field is too narrow.
+fn write_digits(field: &mut [u8], n: u64) -> bool
+    ensures fits { result ≡ nat_le (length (decimal n)) (length field.old) }
+    ensures written { IsTrue result → field.new ≡ number_field (length field.old) n }
+{
+    let Some((last, front)) = field.split_last_mut() else {
+        return false;
+    };
+    *last = b'0' + (n % 10) as u8;
+    if n < 10 {
+        front.fill(b' ');
+        return true;
+    }
+    write_digits(front, n / 10)
 }
 
 // A sighting: place 1 to 7, blank, cue 9 to 12, blank, length 14 to 15.

@@ -1,30 +1,26 @@
-use Rattle.std.proofs.Common.{◌≡◌, arith}
-use Rattle.columns.specs.Lines.{read_line, seen}
-use Rattle.columns.proofs.Readings.{seen_whole}
-use Rattle.columns.proofs.Texts.{line_written}
+use Rattle.std.proofs.Common.{◌∙◌, sym, ap, arith}
+use Rattle.columns.specs.Lines.{read_line}
+use Rattle.columns.proofs.Readings.{cues_by, log_by, read_err, seen_err}
 use Rattle.columns.proofs.line.read_line.Goals as goal
-use Rattle.columns.proofs.line.read_line.Goals.{in-Cues+else-is_ended+else-is_ended-2, in-Log+else-is_ended-3}
 
-pub returns-then-is_ended : goal.returns-then-is_ended
+pub returns-in-Cues-clause-value : goal.returns-in-Cues-clause-value
 unfolding read_line
-returns-then-is_ended c = record { value = grind arith; events = tt; written = line_written c.args.section c.args.line.now }
+returns-in-Cues-clause-value c = grind arith
 
-pub returns-then-is_ended-2 : goal.returns-then-is_ended-2
-unfolding read_line
-returns-then-is_ended-2 c =
-    let v : seen c.read_cue.result ≡ read_line c.args.section c.args.line.now = grind arith in
-    record { value = v; events = seen_whole c.args.section c.args.line.now _ v; written = line_written c.args.section c.args.line.now }
+pub returns-in_ok-number-in-Cues-2-clause-value : goal.returns-in_ok-number-in-Cues-2-clause-value
+returns-in_ok-number-in-Cues-2-clause-value c = grind (arith, cues_by c.args.line.now)
 
-pub returns-then-is_ended-3 : goal.returns-then-is_ended-3
-unfolding read_line
-returns-then-is_ended-3 c =
-    let v : seen c.read_log.result ≡ read_line c.args.section c.args.line.now = grind arith in
-    record { value = v; events = seen_whole c.args.section c.args.line.now _ v; written = line_written c.args.section c.args.line.now }
+pub returns-in_err-number-in-Cues-2-clause-value : goal.returns-in_err-number-in-Cues-2-clause-value
+returns-in_err-number-in-Cues-2-clause-value c =
+    let l = c.args.line.now in
+    seen_err _ _ c.from_residual.ensures.1
+    ∙ sym (ap (λ s. read_line s l) c.in-Cues-2.is ∙ (cues_by l (sym c.is_ended.ensures ∙ c.if-is_ended.false) ∙ read_err _ _ _ c.in_err-number-in-Cues-2.ensures))
 
-pub returns : goal.returns
-unfolding read_line
-returns c =
-    elim c.match-section.branch [
-      | in-Cues+else-is_ended+else-is_ended-2 w ↦ record { value = grind arith; events = tt; written = line_written c.args.section c.args.line.now }
-      | in-Log+else-is_ended-3 w ↦ record { value = grind arith; events = tt; written = line_written c.args.section c.args.line.now }
-    ]
+pub returns-in_ok-second-in-Log-clause-value : goal.returns-in_ok-second-in-Log-clause-value
+returns-in_ok-second-in-Log-clause-value c = grind (arith, log_by c.args.line.now)
+
+pub returns-in_err-second-in-Log-clause-value : goal.returns-in_err-second-in-Log-clause-value
+returns-in_err-second-in-Log-clause-value c =
+    let l = c.args.line.now in
+    seen_err _ _ c.from_residual-in_err-second-in-Log.ensures.1
+    ∙ sym (ap (λ s. read_line s l) c.in-Log.is ∙ (log_by l ∙ read_err _ _ _ c.in_err-second-in-Log.ensures))

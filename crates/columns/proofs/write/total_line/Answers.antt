@@ -1,11 +1,7 @@
-use Rattle.std.proofs.Common.{[], ◌∷◌, refl, rules}
-use Rattle.std.proofs.lemmas.List.{places}
+use Rattle.std.proofs.Common.{[], ◌∷◌, refl}
 use Rattle.columns.specs.Written.{total_line}
 use Rattle.columns.proofs.Placing.{pair_placed}
 use Rattle.columns.proofs.write.total_line.Goals as goal
-
-pub slice_bounds-line-end-2 : goal.slice_bounds-line-end-2
-slice_bounds-line-end-2 c = search (rules, places)
 
 pub returns : goal.returns
 unfolding total_line
