@@ -29,7 +29,7 @@ impl<E: Event> Material<E> {
         Ok(Material { events, signs })
     }
 
-    // No events.
+    // The material with no events.
     pub(crate) fn empty(heap: Global) -> Material<E>
         ensures events { result.events.items ≡ [] }
         ensures signs { result.signs.items ≡ [] }
@@ -40,12 +40,14 @@ impl<E: Event> Material<E> {
         }
     }
 
+    // The events, in their order.
     pub(crate) fn events(&self) -> &[E]
         ensures { result.now ≡ self.now.events.items }
     {
         self.events.as_slice()
     }
 
+    // Their signs, in the same order.
     pub(crate) fn signs(&self) -> &[u16]
         ensures { result.now ≡ self.now.signs.items }
     {
@@ -89,7 +91,7 @@ impl<E: Event> Material<E> {
     }
 }
 
-// The sign of the events at a place, and of those at none.
+// The sign of an event that has its first place here, or none.
 fn sign_at(place: Option<usize>) -> u16
     requires { IfSome place (λ i. i < 2048) }
     ensures { MatchOption place (result ≡ 2048) (λ i. result ≡ i) }

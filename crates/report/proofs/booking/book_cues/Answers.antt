@@ -35,7 +35,7 @@ returns-in-Err g c cues e begun =
     let s = c.loop-i.invariant.1 cues e begun in
     let l = len_is lens cues e i c.loop-i-test.true in
     let at : c.loop-i.place ≡ size (take i cues) = c.loop-i.invariant.0 ∙ place_is same layout cues i lens e in
-    let rule = so_far_refusal same layout cues i (draft_held d) s d.bounded l.0 c.loop-i.place (get_or lens i 0) at l.1 in
+    let rule = so_far_refusal same layout cues i (draft_held d) s d.book.bounded l.0 c.loop-i.place (get_or lens i 0) at l.1 in
     let why = answer_err (add_refused same (draft_held d) c.loop-i.place (get_or lens i 0)) _ c.in-Err.refusal (c.in-Err.ensures.same (signed-so-far same cues (take i cues) (draft_held d) s.held)) in
     so_far_stop same layout cues i (draft_held d) (draft_held c.add.new.self) s l.0 c.in-Err.refusal c.lines_of.result (sym rule ∙ why)
     (lines_are layout (take i cues ++ get_or cues i [] ∷ []) (i + 1) (c.loop-i.place + get_or lens i 0) c.lines_of.result (count_is same layout cues i l.0) (size_is same layout cues i c.loop-i.place (get_or lens i 0) at l.1) c.lines_of.ensures)
@@ -52,7 +52,7 @@ loop-i-preserved g c =
           let s = c.loop-i.invariant.1 cues e begun in
           let l = len_is lens cues e i c.loop-i-test.true in
           let at : c.loop-i.place ≡ size (take i cues) = c.loop-i.invariant.0 ∙ place_is same layout cues i lens e in
-          let rule = so_far_refusal same layout cues i (draft_held d) s d.bounded l.0 c.loop-i.place (get_or lens i 0) at l.1 in
+          let rule = so_far_refusal same layout cues i (draft_held d) s d.book.bounded l.0 c.loop-i.place (get_or lens i 0) at l.1 in
           let why = answer_ok (add_refused same (draft_held d) c.loop-i.place (get_or lens i 0)) _ _ (c.in-Ok.ensures.same (signed-so-far same cues (take i cues) (draft_held d) s.held)) in
           so_far_more same layout cues i (draft_held d) (draft_held c.add.new.self) s l.0 c.loop-i.place (get_or lens i 0) at l.1 (sym rule ∙ why) c.in-Ok.ensures.cues,
     )

@@ -20,7 +20,7 @@ loop-i-init g c = (omega arith, λ begun few. sofar_none _ _ _ _ _ _ begun)
 in-events : (g : Over) (b : Book g.row.E.Denot) (events : List g.row.E.Denot) (free : ℕ) (a : Account) → LoadedEvents g.E.Event.same (book_held b) events free a
 in-events g b events free a =
     loaded_events g.E.Event.same (record { reflexive = g.met.E.Event.reflexive; symmetric = g.met.E.Event.symmetric; transitive = g.met.E.Event.transitive }) (book_held b)
-    (omega (arith, b.short, b.material.ok.0)) (book_within b) (book_cues_of b).some_signs a events free
+    (omega (arith, b.material.short, b.material.events.ok.0)) (book_within b) (book_cues_of b).some_signs a events free
 
 pub returns-then-self-ge-TEXT : goal.returns-then-self-ge-TEXT
 returns-then-self-ge-TEXT g c =
