@@ -2,7 +2,6 @@
 use Rattle.std.proofs.Common.{◌≡◌, ℕ, zero, suc, ◌+◌, ◌-◌, ◌*◌, ◌^◌, ◌<◌, ◌≤◌, true, false, cond, ◌&&◌, eqb, ltb, leb, List, [], ◌∷◌, ◌++◌, length, get_or, drop, replicate, IfSome, Some, None, decimal, Option, sym, refl, ap, ◌∙◌, subst, ⊎_elim, arith, rules}
 use Rattle.std.specs.List.{prefix_len}
 use Rattle.std.proofs.lemmas.Fmt.{decimal-digits_value, digits_value-decimal, digits_decimal, first_decimal, decimal_digit, decimal_nonempty}
-use Rattle.std.proofs.lemmas.List.{at_drop_more}
 use Rattle.std.proofs.lemmas.Str.Parse.{IsNumeralModel, numerals_by_fold}
 use Rattle.std.proofs.lemmas.Bool.{cond_both, cond-true, le-leb, cases_lt}
 use Rattle.columns.specs.Fields.{unblanked, all_digits, numeral, value_from, digits_below, number_below, ReadsWritten}
@@ -80,13 +79,6 @@ pub numeral_zero : (ds : List ℕ) → 1 < length ds → get_or ds 0 0 ≡ 48 �
 numeral_zero [] h e = refl
 numeral_zero (b ∷ []) h e = grind arith
 numeral_zero (b ∷ (c ∷ bs)) h e = grind arith
-
--- steps of the loop over digits
-pub digits_more : (ds : List ℕ) (i : ℕ) → i < length ds → all_digits (drop i ds) ≡ ((leb 48 (get_or ds i 0) && leb (get_or ds i 0) 57) && all_digits (drop (i + 1) ds))
-digits_more ds i h = at_drop_more all_digits ds i 0 h
-
-pub value_more : (v : ℕ) (ds : List ℕ) (i : ℕ) → i < length ds → value_from v (drop i ds) ≡ value_from (v * 10 + (get_or ds i 0 - 48)) (drop (i + 1) ds)
-value_more v ds i h = at_drop_more (value_from v) ds i 0 h
 
 -- a field that is read as n is what is written of n
 pub read_is_written : (limit : ℕ) (f : List ℕ) (n : ℕ) → limit ≤ 2 ^ 64 → n < limit → number_below limit f ≡ Some n → number_field (length f) n ≡ f

@@ -1,8 +1,8 @@
 -- What a line that is read has: its number and its event.
-use Rattle.std.proofs.Common.{◌≡◌, ℕ, ◌+◌, true, false, eqb, List, is_some, IfOk, Some, None, Ok, Err, Option, Result, sym, refl, subst, arith}
+use Rattle.std.proofs.Common.{◌≡◌, ℕ, ◌+◌, true, false, List, is_some, IfOk, Some, None, Ok, Err, Option, Result, sym, refl, ◌∙◌, subst, arith}
 use Rattle.std.specs.Option.{option_map}
 use Rattle.std.specs.Result.{IsErrAnd}
-use Rattle.std.proofs.lemmas.Bool.{cond_both, eqb-true}
+use Rattle.std.proofs.lemmas.Bool.{cond_both, cond-false}
 use Rattle.events.specs.declared.Refusal.{Refusal}
 use Rattle.events.specs.declared.Refusal.TheVariants.{Unreadable}
 use Rattle.columns.specs.declared.line.Section.{Section}
@@ -10,7 +10,7 @@ use Rattle.columns.specs.declared.line.Section.TheVariants.{Cues, Log as LogSect
 use Rattle.columns.specs.declared.line.Line.{Line}
 use Rattle.columns.specs.Fields.{number_below}
 use Rattle.columns.specs.Kinds.{kind_in}
-use Rattle.columns.specs.Lines.{Fields, cue, log, columns, blank_field, kind_field, cue_numbers, seconds, carts, bad_cue_column, bad_log_column, ended, bad_column, read_cue, read_log, read_line, fields_of, seen, event_from, Whole}
+use Rattle.columns.specs.Lines.{Fields, cue, log, parting, columns, blank_field, kind_field, cue_numbers, seconds, carts, ended, bad_column, read_cue, read_log, read_line, seen, event_from, Whole}
 
 pub kind_found : (f : List ℕ) → is_some (kind_in f) ≡ kind_field f
 kind_found f = grind arith
@@ -45,42 +45,36 @@ event_from_some None kind c hs hk hc = grind arith
 event_from_some (Some s) kind None hs hk hc = grind arith
 event_from_some (Some s) kind (Some c) hs hk hc = rw hk refl
 
-pub good_cue : (l : List ℕ) → bad_cue_column l ≡ 0 → (is_some (number_below cue_numbers (columns 1 4 l)) ≡ true) × (blank_field (columns 5 5 l) ≡ true) × (kind_field (columns 6 6 l) ≡ true) × (blank_field (columns 7 7 l) ≡ true) × (is_some (number_below carts (columns 8 13 l)) ≡ true)
-good_cue l e = grind arith
+-- where no column is bad, every field is good
+pub good_fields : (w limit : ℕ) (l : List ℕ) → bad_column w limit l ≡ None → (ended (w + 9) l ≡ true) × (is_some (number_below limit (columns 1 w l)) ≡ true) × (blank_field (columns (w + 1) (w + 1) l) ≡ true) × (kind_field (columns (w + 2) (w + 2) l) ≡ true) × (blank_field (columns (w + 3) (w + 3) l) ≡ true) × (is_some (number_below carts (columns (w + 4) (w + 9) l)) ≡ true)
+good_fields w limit l e = grind arith
 
-pub good_log : (l : List ℕ) → bad_log_column l ≡ 0 → (is_some (number_below seconds (columns 1 5 l)) ≡ true) × (blank_field (columns 6 6 l) ≡ true) × (kind_field (columns 7 7 l) ≡ true) × (blank_field (columns 8 8 l) ≡ true) × (is_some (number_below carts (columns 9 14 l)) ≡ true)
-good_log l e = grind arith
+-- what holds of both answers holds of the reader's
+pub by_both : (bad : Option ℕ) (fields : Fields) (P : Result Fields Refusal → Type 0) → (bad ≡ None → P (Ok fields)) → ((column : ℕ) → P (Err (Unreadable column))) → P (read_by bad fields)
+by_both None fields P good refused = good refl
+by_both (Some column) fields P good refused = refused column
+
+pub cues_both : (l : List ℕ) (P : Result Fields Refusal → Type 0) → (ended 0 l ≡ true → P (Ok parting)) → P (read_by (bad_column 4 cue_numbers l) (cue (columns 1 4 l) (columns 6 6 l) (columns 8 13 l))) → P (read_line Cues l)
+unfolding read_line
+cues_both l P parted read =
+    cond_both (ended 0 l) (Ok parting) _ P parted (λ e. subst P (sym (sym (cond-false (ended 0 l) _ _ e) ∙ cues_by l e)) read)
 
 -- an answer that is no refusal has all that its kind of line says
 abbrev AllThere : Result Fields Refusal → Type 0
 AllThere r = IfOk r Whole
 
-cue_whole : (l : List ℕ) → AllThere (read_cue l)
-unfolding read_cue
-cue_whole l =
-    cond_both (eqb (bad_cue_column l) 0) _ _ AllThere
-    (λ e. let good = good_cue l (eqb-true _ _ e) in (good.0, event_from_some (Some 0) (columns 6 6 l) (number_below carts (columns 8 13 l)) refl good.2 good.4))
-    (λ e. tt)
-
-log_whole : (l : List ℕ) → AllThere (read_log l)
-unfolding read_log
-log_whole l =
-    cond_both (eqb (bad_log_column l) 0) _ _ AllThere
-    (λ e. let good = good_log l (eqb-true _ _ e) in event_from_some (number_below seconds (columns 1 5 l)) (columns 7 7 l) (number_below carts (columns 9 14 l)) good.0 good.2 good.4)
-    (λ e. tt)
-
 -- a line that is read has all that its kind of line says
 pub line_whole : (section : Section) (l : List ℕ) → IfOk (read_line section l) Whole
-unfolding read_line
 line_whole Cues l =
-    cond_both (ended 0 l) _ _ AllThere (λ e. tt)
-    (λ e. cond_both (ended 13 l) _ _ AllThere (λ h. cue_whole l) (λ h. tt))
-line_whole LogSection l = cond_both (ended 14 l) _ _ AllThere (λ e. log_whole l) (λ e. tt)
+    cues_both l AllThere (λ _. tt)
+    (by_both _ _ AllThere
+    (λ e. let good = good_fields 4 cue_numbers l e in (good.1, event_from_some (Some 0) (columns 6 6 l) (number_below carts (columns 8 13 l)) refl good.3 good.5))
+    (λ _. tt))
+line_whole LogSection l =
+    subst AllThere (sym (log_by l))
+    (by_both _ _ AllThere
+    (λ e. let good = good_fields 5 seconds l e in event_from_some (number_below seconds (columns 1 5 l)) (columns 7 7 l) (number_below carts (columns 9 14 l)) good.1 good.3 good.5)
+    (λ _. tt))
 
 pub whole_from_ok : (section : Section) (l : List ℕ) (fields : Fields) → read_line section l ≡ Ok fields → Whole fields
 whole_from_ok section l fields e = subst AllThere e (line_whole section l)
-
--- the same of a reader's answer
-pub seen_whole : (section : Section) (l : List ℕ) (r : Result Line Refusal) → seen r ≡ read_line section l → IfOk r (λ x. Whole (fields_of x))
-seen_whole section l (Ok x) e = whole_from_ok section l (fields_of x) (sym e)
-seen_whole section l (Err refusal) e = tt

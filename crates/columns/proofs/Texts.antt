@@ -1,17 +1,17 @@
 -- A cue or log line is read as its numbers exactly when it is the text of them.
-use Rattle.std.proofs.Common.{◌≡◌, ℕ, ◌+◌, ◌^◌, ◌<◌, ◌≤◌, true, eqb, List, [], ◌∷◌, ◌++◌, length, get_or, take, drop, is_some, Some, None, Ok, decimal, Option, Result, sym, refl, ap, ◌∙◌, subst, arith}
+use Rattle.std.proofs.Common.{◌≡◌, ℕ, ◌+◌, ◌^◌, ◌<◌, ◌≤◌, true, List, [], ◌∷◌, ◌++◌, length, get_or, take, drop, is_some, Some, None, Ok, decimal, Option, Result, sym, refl, ap, ◌∙◌, subst, arith}
 use Rattle.std.proofs.lemmas.Fmt.{length-decimal-le}
 use Rattle.std.proofs.lemmas.List.{append_assoc, length-append, length-drop, length-take-le, take-append-drop, take_at, drop_at, drop_all, drop-drop, drop_more, get_or_at, get_or-drop}
-use Rattle.std.proofs.lemmas.Bool.{cond_both, cond-true, cond-false, and_parts, and_from, eqb-true, eq-eqb, ne_eqb, and_left}
+use Rattle.std.proofs.lemmas.Bool.{and_parts, and_from, eqb-true, eq-eqb, ne_eqb, and_left}
 use Rattle.events.specs.declared.Refusal.{Refusal}
 use Rattle.columns.specs.declared.line.Section.{Section}
 use Rattle.columns.specs.declared.line.Section.TheVariants.{Cues, Log as LogSection}
 use Rattle.columns.specs.Fields.{number_below}
 use Rattle.columns.specs.Kinds.{kind_letter}
-use Rattle.columns.specs.Lines.{Fields, cue, log, parting, columns, blank_field, kind_field, seconds, carts, cue_numbers, bad_cue_column, bad_log_column, ended, read_cue, read_log, read_line, event_from, lines_of, cue_number_of, event_of, cue_says, log_says, said, CueWritten, LogWritten, PartingWritten, LineWritten}
+use Rattle.columns.specs.Lines.{Fields, cue, log, parting, columns, blank_field, kind_field, seconds, carts, cue_numbers, bad_column, ended, read_line, event_from, lines_of, cue_number_of, event_of, cue_says, log_says, said, CueWritten, LogWritten, PartingWritten, LineWritten}
 use Rattle.columns.specs.Written.{number_field, cue_line, log_line}
 use Rattle.columns.proofs.Numbers.{number_below_lem, read_is_written, written_is_read}
-use Rattle.columns.proofs.Readings.{good_cue, good_log}
+use Rattle.columns.proofs.Readings.{none_bad, good_fields, read_by, cues_by, log_by, by_both, cues_both}
 use Rattle.columns.proofs.Splits.{unbroken, unbroken_append, unbroken_number, lines_text}
 use Rattle.columns.proofs.Writing.{length_number}
 
@@ -138,37 +138,24 @@ ended_from n l e f = and_from _ _ (eq-eqb _ _ e) (eq-eqb _ _ f)
 none_some : (v : ℕ × ℕ × ℕ) → ◌≡◌ {A = Option (ℕ × ℕ × ℕ)} None (Some v) → ⊥
 none_some v e = grind arith
 
--- no field of such a line is bad
-cue_good : (l : List ℕ) → is_some (number_below cue_numbers (columns 1 4 l)) ≡ true → blank_field (columns 5 5 l) ≡ true → kind_field (columns 6 6 l) ≡ true → blank_field (columns 7 7 l) ≡ true → is_some (number_below carts (columns 8 13 l)) ≡ true → bad_cue_column l ≡ 0
-cue_good l a b c d e = grind arith
-
-log_good : (l : List ℕ) → is_some (number_below seconds (columns 1 5 l)) ≡ true → blank_field (columns 6 6 l) ≡ true → kind_field (columns 7 7 l) ≡ true → blank_field (columns 8 8 l) ≡ true → is_some (number_below carts (columns 9 14 l)) ≡ true → bad_log_column l ≡ 0
-log_good l a b c d e = grind arith
-
 -- cue lines
 cue_found : (l : List ℕ) (n k c : ℕ) → said cue_says (read_line Cues l) ≡ Some (n, k, c) → Found cue_numbers 4 n k c l
-unfolding read_line read_cue
 cue_found l n k c =
     let P : Result Fields Refusal → Type 0 = λ r. said cue_says r ≡ Some (n, k, c) → Found cue_numbers 4 n k c l in
-    cond_both (ended 0 l) (Ok parting) _ P (λ _ q. absurd (none_some _ q))
-    (λ _. cond_both (ended 13 l) (read_cue l) _ P
-    (λ h. cond_both (eqb (bad_cue_column l) 0) _ _ P
+    cues_both l P (λ _ q. absurd (none_some _ q))
+    (by_both _ _ P
     (λ e q.
-    let good = good_cue l (eqb-true _ _ e) in
+    let good = good_fields 4 cue_numbers l e in
     let event = event_parts _ (columns 6 6 l) _ n k c q in
-    let end = ended_parts 13 l h in
-    record { number = event.0; blank = good.1; kind = event.1; letter = event.2; blank_2 = good.3; cart = event.3; long = end.0; last = end.1 })
-    (λ _ q. absurd (none_some _ q)))
+    let end = ended_parts 13 l good.0 in
+    record { number = event.0; blank = good.2; kind = event.1; letter = event.2; blank_2 = good.4; cart = event.3; long = end.0; last = end.1 })
     (λ _ q. absurd (none_some _ q)))
 
 cue_said : (l : List ℕ) (n k c : ℕ) → Found cue_numbers 4 n k c l → said cue_says (read_line Cues l) ≡ Some (n, k, c)
-unfolding read_line read_cue
 cue_said l n k c f =
-    let bad : bad_cue_column l ≡ 0 = cue_good l (ap is_some f.number) f.blank f.kind f.blank_2 (ap is_some f.cart) in
+    let bad : bad_column 4 cue_numbers l ≡ None = none_bad 4 cue_numbers l (ended_from 13 l f.long f.last) (ap is_some f.number) f.blank f.kind f.blank_2 (ap is_some f.cart) in
     let longer : length l ≡ 1 → ⊥ = λ e. omega (arith, f.long) in
-    let answer : read_line Cues l ≡ Ok (cue (columns 1 4 l) (columns 6 6 l) (columns 8 13 l)) =
-    cond-false (ended 0 l) _ _ (and_left _ _ (ne_eqb _ _ longer))
-    ∙ (cond-true (ended 13 l) _ _ (ended_from 13 l f.long f.last) ∙ cond-true _ _ _ (eq-eqb _ _ bad)) in
+    let answer = cues_by l (and_left _ _ (ne_eqb _ _ longer)) ∙ ap (λ b. read_by b (cue (columns 1 4 l) (columns 6 6 l) (columns 8 13 l))) bad in
     ap (said cue_says) answer ∙ event_made _ (columns 6 6 l) _ n k c f.number f.kind f.letter f.cart
 
 pub cue_written : (l : List ℕ) → CueWritten l
@@ -185,25 +172,21 @@ cue_written l n k c = (
 
 -- log lines
 log_found : (l : List ℕ) (n k c : ℕ) → said log_says (read_line LogSection l) ≡ Some (n, k, c) → Found seconds 5 n k c l
-unfolding read_line read_log
 log_found l n k c =
     let P : Result Fields Refusal → Type 0 = λ r. said log_says r ≡ Some (n, k, c) → Found seconds 5 n k c l in
-    cond_both (ended 14 l) (read_log l) _ P
-    (λ h. cond_both (eqb (bad_log_column l) 0) _ _ P
+    subst P (sym (log_by l))
+    (by_both _ _ P
     (λ e q.
-    let good = good_log l (eqb-true _ _ e) in
+    let good = good_fields 5 seconds l e in
     let event = event_parts _ (columns 7 7 l) _ n k c q in
-    let end = ended_parts 14 l h in
-    record { number = event.0; blank = good.1; kind = event.1; letter = event.2; blank_2 = good.3; cart = event.3; long = end.0; last = end.1 })
+    let end = ended_parts 14 l good.0 in
+    record { number = event.0; blank = good.2; kind = event.1; letter = event.2; blank_2 = good.4; cart = event.3; long = end.0; last = end.1 })
     (λ _ q. absurd (none_some _ q)))
-    (λ _ q. absurd (none_some _ q))
 
 log_said : (l : List ℕ) (n k c : ℕ) → Found seconds 5 n k c l → said log_says (read_line LogSection l) ≡ Some (n, k, c)
-unfolding read_line read_log
 log_said l n k c f =
-    let bad : bad_log_column l ≡ 0 = log_good l (ap is_some f.number) f.blank f.kind f.blank_2 (ap is_some f.cart) in
-    let answer : read_line LogSection l ≡ Ok (log (columns 1 5 l) (columns 7 7 l) (columns 9 14 l)) =
-    cond-true (ended 14 l) _ _ (ended_from 14 l f.long f.last) ∙ cond-true _ _ _ (eq-eqb _ _ bad) in
+    let bad : bad_column 5 seconds l ≡ None = none_bad 5 seconds l (ended_from 14 l f.long f.last) (ap is_some f.number) f.blank f.kind f.blank_2 (ap is_some f.cart) in
+    let answer = log_by l ∙ ap (λ b. read_by b (log (columns 1 5 l) (columns 7 7 l) (columns 9 14 l))) bad in
     ap (said log_says) answer ∙ event_made _ (columns 7 7 l) _ n k c f.number f.kind f.letter f.cart
 
 pub log_written : (l : List ℕ) → LogWritten l
@@ -224,16 +207,10 @@ one_byte [] h e = grind arith
 one_byte (b ∷ []) h e = ap (λ x. x ∷ []) e
 one_byte (b ∷ (c ∷ bs)) h e = grind arith
 
-no_parting : (l : List ℕ) → read_cue l ≡ Ok parting → ⊥
-unfolding read_cue
-no_parting l e = grind arith
-
 parting_from : (l : List ℕ) → read_line Cues l ≡ Ok parting → l ≡ 10 ∷ []
-unfolding read_line
 parting_from l =
     let P : Result Fields Refusal → Type 0 = λ r. r ≡ Ok parting → l ≡ 10 ∷ [] in
-    cond_both (ended 0 l) _ _ P (λ h _. let end = ended_parts 0 l h in one_byte l end.0 end.1)
-    (λ _. cond_both (ended 13 l) _ _ P (λ _ q. absurd (no_parting l q)) (λ _ q. grind arith))
+    cues_both l P (λ h _. let end = ended_parts 0 l h in one_byte l end.0 end.1) (by_both _ _ P (λ _ q. absurd (cc)) (λ _ q. absurd (cc)))
 
 pub parting_written : (l : List ℕ) → PartingWritten l
 unfolding read_line

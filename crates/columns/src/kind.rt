@@ -1,6 +1,6 @@
 // The kinds of as-run event and their letters.
 
-ghost use Rattle.std.specs.Prelude.{◌≡◌, [], ◌∷◌, Some};
+ghost use Rattle.std.specs.Prelude.{◌≡◌, [], ◌∷◌, ◌++◌, Some, decimal, codes};
 ghost use Rattle.columns.specs.Kinds.{letter_of, kind_in, HasLetter};
 
 use std::error::Error;
@@ -62,6 +62,8 @@ impl fmt::Display for Kind {
 }
 
 impl fmt::Display for UnknownLetter {
+    ghost output = { λ e. Some (codes "no kind of event has byte " ++ decimal e.0) };
+
     fn fmt<W: fmt::Write>(&self, f: &mut fmt::Formatter<W>) -> fmt::Result {
         write!(f, "no kind of event has byte {}", self.0)
     }

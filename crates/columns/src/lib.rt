@@ -10,6 +10,6 @@ mod write;
 
 pub use asrun::AsRun;
 pub use field::read_number;
-pub use kind::Kind;
+pub use kind::{Kind, UnknownLetter};
 pub use line::{Line, Section, read_line, split_line};
 pub use write::{entry_line, refusal_line, total_line, write_number};

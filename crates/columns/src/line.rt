@@ -152,7 +152,7 @@ fn columns(line: &[u8], a: usize, b: usize) -> &[u8]
     &line[a - 1..b]
 }
 
-// A refusal at this column where the field that begins there is bad.
+// A refusal at the first column of a field, where the field is bad.
 fn good_or(is_good: bool, column: u8) -> Result<(), Refusal>
     ensures { MatchResult result (λ _. is_good ≡ true) (λ e. (is_good ≡ false) × (e ≡ Unreadable column)) }
 {

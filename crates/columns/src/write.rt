@@ -14,7 +14,8 @@ pub fn write_number(field: &mut [u8], n: u64)
     }
 }
 
-// Writes the digits into the last columns and blanks in front, or answers that the field is too narrow.
+// Writes the digits into the last columns and blanks in front, and answers whether the field is wide enough:
+// the last digit here, and what is left of the number into what is left of the field.
 fn write_digits(field: &mut [u8], n: u64) -> bool
     ensures fits { result ≡ nat_le (length (decimal n)) (length field.old) }
     ensures written { IsTrue result → field.new ≡ number_field (length field.old) n }
