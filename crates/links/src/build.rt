@@ -62,8 +62,7 @@ impl Table {
         ensures kept { Kept self.old self.new }
     {
         let parent = self.places[number];
-        let child = self.child(parent, sign);
-        if child != 0 {
+        if let Some(child) = self.child(parent, sign) {
             return child;
         }
         let link = self.link_from(parent, sign);

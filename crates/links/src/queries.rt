@@ -1,7 +1,6 @@
-// Reading a table that is built: the sightings of an entry, and the entry of the front of a cue.
+// Reading a table that is built: the sightings of an entry.
 
-ghost use Rattle.std.specs.Prelude.{◌≡◌, ◌<◌, ◌≤◌, [], length, take, None, vec_len, slice_index_or};
-ghost use Rattle.book.specs.Cues.{AllWithin};
+ghost use Rattle.std.specs.Prelude.{◌≡◌, ◌<◌, length, None, vec_len, slice_index_or};
 ghost use Rattle.engine.specs.Statements.{ith};
 ghost use Rattle.matching.specs.Match.{sightings};
 ghost use Rattle.links_theory.specs.Entries.{exact_of, node_at, path};
@@ -67,23 +66,5 @@ impl Table {
             link = self.node(link).link;
         }
         None
-    }
-
-    // The entry of the first `len` signs of a cue, reached from the root sign by sign.
-    pub(crate) fn descend(&self, from: u16, number: usize, len: usize) -> u16
-        requires ready { ReadyIn self.now from }
-        requires within { AllWithin (vec_len self.now.signs) self.now.cues.items }
-        requires number { number < vec_len self.now.cues }
-        requires len { len ≤ length (slice_index_or (cues_in self.now) number []) }
-        ensures within { result < vec_len self.now.nodes }
-        ensures path { path (cues_in self.now) self.now.nodes.items result ≡ take len (slice_index_or (cues_in self.now) number []) }
-    {
-        let place = self.cues[number].place;
-        let mut at = 0;
-        for i in 0..len {
-            let sign = self.signs[place + i];
-            at = self.child(at, sign);
-        }
-        at
     }
 }

@@ -1,6 +1,6 @@
 // The table of entries: looking up a child, and the walk along the links.
 
-ghost use Rattle.std.specs.Prelude.{◌≡◌, ◌+◌, ◌<◌, ◌&&◌, [], ◌∷◌, ◌++◌, vec_len, ◌==◌};
+ghost use Rattle.std.specs.Prelude.{◌≡◌, ◌+◌, ◌<◌, ◌&&◌, [], ◌∷◌, ◌++◌, vec_len, ◌==◌, IfSome, IfNone};
 ghost use Rattle.matching.specs.Match.{link as link_of};
 ghost use Rattle.links_theory.specs.Entries.{Complete, Found, node_at, path, slot_of, Walked};
 ghost use Rattle.links.specs.Tables.{cues_in, SoundIn};
@@ -55,20 +55,21 @@ impl Table {
         self.nodes[at as usize]
     }
 
-    // The child of an entry by a sign; 0 where there is none.
-    pub(crate) fn child(&self, parent: u16, sign: u16) -> u16
+    // The child of an entry by a sign.
+    pub(crate) fn child(&self, parent: u16, sign: u16) -> Option<u16>
         requires { SoundIn self.now }
-        ensures { Found self.now.nodes.items parent sign result }
+        ensures some { IfSome result (λ at. (0 < at) × Found self.now.nodes.items parent sign at) }
+        ensures none { IfNone result (Found self.now.nodes.items parent sign 0) }
     {
         let mut at = self.heads[slot(parent, sign)];
         while at != 0 {
             let node = self.node(at);
             if is_child(node, parent, sign) {
-                return at;
+                return Some(at);
             }
             at = node.next;
         }
-        0
+        None
     }
 
     // From an entry along the links to the first with a child by the sign: that child, or the empty
@@ -83,8 +84,7 @@ impl Table {
         let mut trials = 0u32;
         loop {
             trials += 1;
-            let child = self.child(at, sign);
-            if child != 0 {
+            if let Some(child) = self.child(at, sign) {
                 return Walk { at: child, trials };
             }
             if at == 0 {

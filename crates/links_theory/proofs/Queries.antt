@@ -1,5 +1,5 @@
 -- Reading a table that is ready: sightings along the links, and the way down to the front of a cue.
-use Rattle.std.proofs.Common.{◌≡◌, ℕ, zero, suc, ◌+◌, ◌-◌, ◌<◌, ◌≤◌, ◌⊎◌, List, [], ◌∷◌, ◌++◌, length, get_or, take, Some, None, Option, sym, refl, ap, ◌∙◌, subst, inl, inr, ⊎_elim, arith}
+use Rattle.std.proofs.Common.{◌≡◌, ℕ, zero, suc, ◌+◌, ◌-◌, ◌<◌, ◌≤◌, List, [], ◌∷◌, ◌++◌, length, get_or, take, Some, None, Option, sym, refl, ap, ◌∙◌, arith}
 use Rattle.std.proofs.lemmas.List.{length-append, take_more}
 use Rattle.std.proofs.lemmas.Bool.{both_ways}
 use Rattle.matching.specs.Match.{beginning, sightings}
@@ -86,19 +86,16 @@ module _ (cues : List (List ℕ)) (nodes : List Node) (heads : List ℕ) (wholes
       none : (n : ℕ) → 1 ≤ n → None ≡ ith n []
       none n p = grind arith
 
-  -- one sign further down a cue
-  pub descend_more : (c at i sign child : ℕ) → c < length cues → at < length nodes → path cues nodes at ≡ take i (get_or cues c []) → i < length (get_or cues c []) → sign ≡ get_or (get_or cues c []) i 0 → Found nodes at sign child → path cues nodes child ≡ take (i + 1) (get_or cues c [])
-  descend_more c at i sign child h w e l s f =
-      ⊎_elim
-      (λ (z : child ≡ 0).
-      let none = child_none cues nodes heads r.sound at sign ((node_at nodes at).len + 1) w (subst (Found nodes at sign) z f) (r.complete ((node_at nodes at).len + 1)) (omega arith) in
-      absurd (both_ways (beginning cues (path cues nodes at ++ sign ∷ [])) none (ap (beginning cues) next ∙ cue_front cues c (i + 1) h)))
-      (λ (p : 0 < child). child_path cues nodes heads r.sound at sign child f p ∙ next)
-      (either child)
-    where
-      next : path cues nodes at ++ sign ∷ [] ≡ take (i + 1) (get_or cues c [])
-      next = ap (λ b. b ++ sign ∷ []) e ∙ ap (λ x. take i (get_or cues c []) ++ x ∷ []) s ∙ sym (take_more (get_or cues c []) i 0 l)
+  -- one sign further down a cue: there is a child, and it is the entry of one sign more
+  module _ (c at i sign : ℕ) (h : c < length cues) (w : at < length nodes) (e : path cues nodes at ≡ take i (get_or cues c [])) (l : i < length (get_or cues c [])) (s : sign ≡ get_or (get_or cues c []) i 0) where
+    next : path cues nodes at ++ sign ∷ [] ≡ take (i + 1) (get_or cues c [])
+    next = ap (λ b. b ++ sign ∷ []) e ∙ ap (λ x. take i (get_or cues c []) ++ x ∷ []) s ∙ sym (take_more (get_or cues c []) i 0 l)
 
-      either : (n : ℕ) → (n ≡ 0) ⊎ (0 < n)
-      either zero = inl refl
-      either (suc n) = inr (omega arith)
+    pub descend_child : Found nodes at sign 0 → ⊥
+    descend_child f =
+        both_ways (beginning cues (path cues nodes at ++ sign ∷ []))
+        (child_none cues nodes heads r.sound at sign ((node_at nodes at).len + 1) w f (r.complete ((node_at nodes at).len + 1)) (omega arith))
+        (ap (beginning cues) next ∙ cue_front cues c (i + 1) h)
+
+    pub descend_more : (child : ℕ) → Found nodes at sign child → 0 < child → path cues nodes child ≡ take (i + 1) (get_or cues c [])
+    descend_more child f p = child_path cues nodes heads r.sound at sign child f p ∙ next
