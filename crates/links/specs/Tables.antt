@@ -3,13 +3,17 @@ use Rattle.std.specs.Prelude.{◌≡◌, ℕ, ◌+◌, ◌≤◌, true, List, le
 use Rattle.book.specs.Cues.{AllWithin, parts_of}
 use Rattle.book.specs.declared.cue.Cue.{Cue}
 use Rattle.matching.specs.Calls.{total}
-use Rattle.matching.specs.Match.{distinct}
-use Rattle.links_theory.specs.Entries.{Sound, Growing, done, Marked, Ready}
+use Rattle.matching.specs.Match.{distinct, sightings}
+use Rattle.links_theory.specs.Entries.{path, Sound, Growing, done, Marked, Ready}
 use Rattle.links.specs.declared.table.Table.{Table}
 
 -- the cues of a table
 abbrev pub cues_in : Table → List (List ℕ)
 cues_in t = parts_of (vec_items t.signs) (vec_items t.cues)
+
+-- the sightings of an entry
+abbrev pub seen_at : Table → ℕ → List (ℕ × ℕ)
+seen_at t at = sightings (cues_in t) (path (cues_in t) (vec_items t.nodes) at)
 
 abbrev pub SoundIn : Table → Type 0
 SoundIn t = Sound (cues_in t) (vec_items t.nodes) (vec_items t.heads)

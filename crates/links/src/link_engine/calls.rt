@@ -2,12 +2,14 @@
 
 ghost use Rattle.std.specs.Prelude.{◌≡◌, ◌+◌, ◌<◌, ◌≤◌, min, [], ◌∷◌, ◌++◌, length, take, IfOk, None, vec_len, slice_index_or};
 ghost use Rattle.book.specs.Cues.{answer};
-ghost use Rattle.matching.specs.Match.{live as live_of, tries};
+ghost use Rattle.matching.specs.Match.{live as live_of, sightings, tries};
 ghost use Rattle.engine.specs.Statements.{named, resume_refusal};
 ghost use Rattle.links_theory.specs.Entries.{path};
 ghost use Rattle.links.specs.Engines.{engine_cues, engine_live};
+ghost use Rattle.links.specs.Tables.{seen_at};
 
 use crate::link_engine::LinkEngine;
+use crate::queries::Sightings;
 use crate::table::Table;
 use book::{Book, Cue};
 use engine::Engine;
@@ -85,6 +87,18 @@ impl LinkEngine {
     }
 }
 
+impl LinkEngine {
+    // The sightings of the live beginning, the longest first.
+    fn sightings(&self) -> Sightings<'_>
+        ensures { seen_at result.table.now result.at ≡ sightings (engine_cues self.now) (engine_live self.now) }
+    {
+        Sightings {
+            table: &self.table,
+            at: self.at,
+        }
+    }
+}
+
 impl Engine for LinkEngine {
     const CAPACITY: usize = 1024;
 
@@ -122,11 +136,12 @@ impl Engine for LinkEngine {
     }
 
     fn sighted(&self) -> usize {
-        self.table.count_from(self.at)
+        self.sightings().count()
     }
 
     fn sighting(&self, i: usize) -> Option<(u16, u16)> {
-        self.table.pick_from(self.at, i)
+        let before = i.checked_sub(1)?;
+        self.sightings().nth(before)
     }
 
     fn standing(&self) -> (u16, u16) {
