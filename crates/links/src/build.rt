@@ -43,6 +43,7 @@ impl Table {
             link: 0,
             cue,
             len,
+            whole: None,
         });
         self.heads[slot] = at;
         at

@@ -25,9 +25,8 @@ impl<'a> Iterator for Sightings<'a> {
         let mut at = self.at;
         while at != 0 {
             let node = self.table.node(at);
-            let whole = self.table.wholes[usize::from(at)];
             at = node.link;
-            if let Some(number) = whole {
+            if let Some(number) = node.whole {
                 self.at = at;
                 return Some((number, node.len));
             }

@@ -20,8 +20,6 @@ pub(crate) struct Table {
     pub(crate) heads: Vec<u16>,
     // While the table is built: the entry of the first signs of each cue.
     pub(crate) places: Vec<u16>,
-    // For each entry the cue that it is as a whole, if it is one.
-    pub(crate) wholes: Vec<Option<u16>>,
 }
 
 // Where a walk ended, and its trials (textbook: goto tests).

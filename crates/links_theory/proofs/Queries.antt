@@ -13,16 +13,16 @@ exact_few : (o : Option ℕ) (k : ℕ) → length (exact_of o k) ≤ 1
 exact_few None k = omega arith
 exact_few (Some c) k = omega arith
 
-module _ (cues : List (List ℕ)) (nodes : List Node) (heads : List ℕ) (wholes : List (Option ℕ)) (from : ℕ) (r : Ready cues nodes heads wholes from) where
+module _ (cues : List (List ℕ)) (nodes : List Node) (heads : List ℕ) (from : ℕ) (r : Ready cues nodes heads from) where
   -- an entry has at most as many sightings as signs
   pub sightings_few : (k at : ℕ) → at < length nodes → (node_at nodes at).len ≤ k → length (sightings cues (path cues nodes at)) ≤ k
-  sightings_few k zero h l = omega (arith, ap length (sightings_root cues nodes heads wholes from r))
+  sightings_few k zero h l = omega (arith, ap length (sightings_root cues nodes heads from r))
   sightings_few zero (suc i) h l = absurd (omega (arith, l, (r.sound.entries (suc i) (omega arith) h).some))
   sightings_few (suc k) (suc i) h l =
       let to = link_path cues nodes heads r.sound (suc i) (omega arith) h in
-      let own = exact_of (get_or wholes (suc i) None) (node_at nodes (suc i)).len in
+      let own = exact_of (node_at nodes (suc i)).whole (node_at nodes (suc i)).len in
       let rest = sightings cues (path cues nodes (node_at nodes (suc i)).link) in
-      omega (arith, ap length (sightings_entry cues nodes heads wholes from r (suc i) (omega arith) h) ∙ length-append own rest, exact_few (get_or wholes (suc i) None) (node_at nodes (suc i)).len, sightings_few k (node_at nodes (suc i)).link to.0 (omega (arith, to.2, l)))
+      omega (arith, ap length (sightings_entry cues nodes heads from r (suc i) (omega arith) h) ∙ length-append own rest, exact_few (node_at nodes (suc i)).whole (node_at nodes (suc i)).len, sightings_few k (node_at nodes (suc i)).link to.0 (omega (arith, to.2, l)))
 
   -- one sign further down a cue: there is a child, and it is the entry of one sign more
   module _ (c at i sign : ℕ) (h : c < length cues) (w : at < length nodes) (e : path cues nodes at ≡ take i (get_or cues c [])) (l : i < length (get_or cues c [])) (s : sign ≡ get_or (get_or cues c []) i 0) where

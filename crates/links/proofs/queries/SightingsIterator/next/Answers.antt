@@ -1,5 +1,4 @@
-use Rattle.std.proofs.Common.{◌≡◌, ℕ, ◌<◌, ◌++◌, length, get_or, Some, None, Option, vec_items, sym, ap, ◌∙◌, arith}
-use Rattle.std.proofs.lemmas.List.{get_or_read}
+use Rattle.std.proofs.Common.{◌≡◌, ℕ, ◌<◌, ◌++◌, length, Some, None, Option, vec_items, sym, ap, ◌∙◌, arith}
 use Rattle.links_theory.specs.declared.Node.{Node}
 use Rattle.links_theory.specs.Entries.{exact_of, node_at}
 use Rattle.links_theory.proofs.Walks.{sightings_entry, sightings_root}
@@ -13,11 +12,9 @@ module _ (s : Sightings) (at : ℕ) (n : Node) (p : 0 < at) (h : at < length (ve
   older : n.link < at
   older = omega (arith, ap (λ m. m.link) e, ((ready_table s.table.now s.at s.ready).sound.entries at p h).link)
 
-  seen : (i : ℕ) (w o : Option ℕ) → i ≡ at → w ≡ get_or (vec_items s.table.now.wholes) i w → w ≡ o → seen_at s.table.now at ≡ exact_of o n.len ++ seen_at s.table.now n.link
-  seen i w o z is is' =
-      let r = ready_table s.table.now s.at s.ready in
-      let whole = get_or_read (vec_items s.table.now.wholes) i w (omega (arith, z, h, r.marks)) is None ∙ ap (λ j. get_or (vec_items s.table.now.wholes) j None) z in
-      sightings_entry (cues_in s.table.now) (vec_items s.table.now.nodes) (vec_items s.table.now.heads) (vec_items s.table.now.wholes) s.at r at p h ∙ ap (λ m. exact_of (get_or (vec_items s.table.now.wholes) at None) m.len ++ seen_at s.table.now m.link) (sym e) ∙ ap (λ x. exact_of x n.len ++ seen_at s.table.now n.link) (sym whole ∙ is')
+  seen : (o : Option ℕ) → n.whole ≡ o → seen_at s.table.now at ≡ exact_of o n.len ++ seen_at s.table.now n.link
+  seen o is =
+      sightings_entry (cues_in s.table.now) (vec_items s.table.now.nodes) (vec_items s.table.now.heads) s.at (ready_table s.table.now s.at s.ready) at p h ∙ ap (λ m. exact_of m.whole m.len ++ seen_at s.table.now m.link) (sym e) ∙ ap (λ x. exact_of x n.len ++ seen_at s.table.now n.link) is
 
 pub invariant_of-self : goal.invariant_of-self
 invariant_of-self c =
@@ -27,7 +24,7 @@ invariant_of-self c =
 
 pub returns-in-Some-clause-steps : goal.returns-in-Some-clause-steps
 returns-in-Some-clause-steps c =
-    sym c.loop-at.invariant.1 ∙ seen c.loop-at.self c.loop-at.at c.node-node.result (omega (arith, c.loop-at-test.true)) c.loop-at.invariant.0 c.node-node.ensures c.from.result c.index-whole.result.now (Some c.in-Some.number) c.from.ensures c.index-whole.ensures c.in-Some.is
+    sym c.loop-at.invariant.1 ∙ seen c.loop-at.self c.loop-at.at c.node-node.result (omega (arith, c.loop-at-test.true)) c.loop-at.invariant.0 c.node-node.ensures (Some c.in-Some.number) c.in-Some.is
 
 pub returns-in-Some-clause-goes : goal.returns-in-Some-clause-goes
 returns-in-Some-clause-goes c =
@@ -41,7 +38,7 @@ pub loop-at-preserved : goal.loop-at-preserved
 loop-at-preserved c =
     let old = older c.loop-at.self c.loop-at.at c.node-node.result (omega (arith, c.loop-at-test.true)) c.loop-at.invariant.0 c.node-node.ensures in (
       omega (arith, old, c.loop-at.invariant.0),
-      sym (seen c.loop-at.self c.loop-at.at c.node-node.result (omega (arith, c.loop-at-test.true)) c.loop-at.invariant.0 c.node-node.ensures c.from.result c.index-whole.result.now None c.from.ensures c.index-whole.ensures c.in_default.is) ∙ c.loop-at.invariant.1,
+      sym (seen c.loop-at.self c.loop-at.at c.node-node.result (omega (arith, c.loop-at-test.true)) c.loop-at.invariant.0 c.node-node.ensures None c.in_default.is) ∙ c.loop-at.invariant.1,
     )
 
 pub invariant_of-self-2 : goal.invariant_of-self-2
@@ -53,5 +50,5 @@ invariant_of-self-2 c =
 pub returns-clause-steps : goal.returns-clause-steps
 returns-clause-steps c =
     let s = c.loop-at.self in
-    let none = sightings_root (cues_in s.table.now) (vec_items s.table.now.nodes) (vec_items s.table.now.heads) (vec_items s.table.now.wholes) s.at (ready_table s.table.now s.at s.ready) in
+    let none = sightings_root (cues_in s.table.now) (vec_items s.table.now.nodes) (vec_items s.table.now.heads) s.at (ready_table s.table.now s.at s.ready) in
     (sym c.loop-at.invariant.1 ∙ ap (seen_at s.table.now) c.loop-at-test.false ∙ none, none)
