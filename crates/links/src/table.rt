@@ -23,7 +23,7 @@ pub(crate) struct Table {
 }
 
 // Where a walk ended, and its trials (textbook: goto tests).
-#[derive(Clone, Copy)]
+#[derive(Clone, Copy, Debug)]
 pub(crate) struct Walk {
     pub(crate) at: u16,
     pub(crate) trials: u32,
@@ -34,14 +34,14 @@ pub(crate) fn slot(parent: u16, sign: u16) -> usize
     ensures value { result ≡ slot_of parent sign }
     ensures small { result < 1024 }
 {
-    (parent as usize * 397 + sign as usize) % SLOTS
+    (usize::from(parent) * 397 + usize::from(sign)) % SLOTS
 }
 
 // Whether an entry is the child of `parent` by `sign`.
 fn is_child(node: Node, parent: u16, sign: u16) -> bool
     ensures { result ≡ (node.parent == parent && node.sign == sign) }
 {
-    node.parent == parent && node.sign == sign
+    (node.parent, node.sign) == (parent, sign)
 }
 
 impl Table {
@@ -50,7 +50,7 @@ impl Table {
         requires { at < vec_len self.now.nodes }
         ensures { result ≡ node_at self.now.nodes.items at }
     {
-        self.nodes[at as usize]
+        self.nodes[usize::from(at)]
     }
 
     // The child of an entry by a sign.
