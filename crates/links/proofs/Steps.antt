@@ -1,22 +1,21 @@
 -- What a table keeps while it is built, and the steps of a build.
-use Rattle.std.proofs.Common.{◌≡◌, ℕ, ◌+◌, ◌≤◌, length, vec_items, vec_capacity, sym, refl, ap, ◌∙◌, subst, arith}
+use Rattle.std.proofs.Common.{◌≡◌, ℕ, ◌+◌, ◌≤◌, length, vec_items, sym, refl, ap, ◌∙◌, subst, arith}
 use Rattle.book.specs.Cues.{AllWithin, parts_of}
 use Rattle.matching.specs.Calls.{total}
 use Rattle.links_theory.specs.Entries.{Growing, done}
-use Rattle.links_theory.proofs.Growth.{growing_level, growing_moved, done_all}
+use Rattle.links_theory.proofs.Growth.{growing_level, done_all}
 use Rattle.links_theory.proofs.Parts.{cues_length}
 use Rattle.links.specs.declared.table.Table.{Table}
 use Rattle.links.specs.Tables.{cues_in, Kept, Building}
 
 pub kept_same : (t : Table) → Kept t t
-kept_same t = record { signs = refl; cues = refl; wholes = refl; nodes = refl; heads = refl; places = refl }
+kept_same t = record { signs = refl; cues = refl; nodes = refl; heads = refl; places = refl }
 
 pub kept_more : (t u v : Table) → Kept t u → Kept u v → Kept t v
 kept_more t u v p q =
     record {
       signs = q.signs ∙ p.signs;
       cues = q.cues ∙ p.cues;
-      wholes = q.wholes ∙ p.wholes;
       nodes = q.nodes ∙ p.nodes;
       heads = q.heads ∙ p.heads;
       places = q.places ∙ p.places;
@@ -25,6 +24,10 @@ kept_more t u v p q =
 pub kept_cues : (t u : Table) → Kept t u → cues_in u ≡ cues_in t
 kept_cues t u k = ap (λ v. parts_of (vec_items v) (vec_items u.cues)) k.signs ∙ ap (λ v. parts_of (vec_items t.signs) (vec_items v)) k.cues
 
+pub within_kept : (t u : Table) → Kept t u → AllWithin (length (vec_items t.signs)) (vec_items t.cues) → AllWithin (length (vec_items u.signs)) (vec_items u.cues)
+within_kept t u k w =
+    subst (λ v. AllWithin (length (vec_items v)) (vec_items u.cues)) (sym k.signs) (subst (λ v. AllWithin (length (vec_items t.signs)) (vec_items v)) (sym k.cues) w)
+
 -- a build goes on in a table that has kept the cues
 pub building_kept : (t u : Table) (k i j : ℕ) → Building t k i → Kept t u → Growing (cues_in t) (vec_items u.nodes) (vec_items u.heads) (vec_items u.places) k j → length (vec_items u.nodes) ≤ 1 + done k j (cues_in t) → Building u k j
 building_kept t u k i j b e g few =
@@ -32,7 +35,7 @@ building_kept t u k i j b e g few =
       growing = subst (λ cs. Growing cs (vec_items u.nodes) (vec_items u.heads) (vec_items u.places) k j) (sym (kept_cues t u e)) g;
       few = subst (λ cs. length (vec_items u.nodes) ≤ 1 + done k j cs) (sym (kept_cues t u e)) few;
       fits = subst (λ cs. total cs ≤ 1024) (sym (kept_cues t u e)) b.fits;
-      within = subst (λ v. AllWithin (length (vec_items v)) (vec_items u.cues)) (sym e.signs) (subst (λ v. AllWithin (length (vec_items t.signs)) (vec_items v)) (sym e.cues) b.within);
+      within = within_kept t u e b.within;
       numbers = subst (λ v. length (vec_items v) ≤ 128) (sym e.cues) b.numbers;
       room = subst (λ n. 1025 ≤ n) (sym e.nodes) b.room;
     }
@@ -48,17 +51,4 @@ building_level t k i b h =
       within = b.within;
       numbers = b.numbers;
       room = b.room;
-    }
-
--- a build as it is in a table that differs in the marks alone
-pub building_same : (t u : Table) (k i : ℕ) → u.signs ≡ t.signs → u.cues ≡ t.cues → u.nodes ≡ t.nodes → u.heads ≡ t.heads → u.places ≡ t.places → Building t k i → Building u k i
-building_same t u k i a b c d e h =
-    let cues : cues_in u ≡ cues_in t = ap (λ v. parts_of (vec_items v) (vec_items u.cues)) a ∙ ap (λ v. parts_of (vec_items t.signs) (vec_items v)) b in
-    record {
-      growing = growing_moved k i cues (ap vec_items c) (ap vec_items d) (ap vec_items e) h.growing;
-      few = subst (λ cs. length (vec_items u.nodes) ≤ 1 + done k i cs) (sym cues) (subst (λ v. length (vec_items v) ≤ 1 + done k i (cues_in t)) (sym c) h.few);
-      fits = subst (λ cs. total cs ≤ 1024) (sym cues) h.fits;
-      within = subst (λ v. AllWithin (length (vec_items v)) (vec_items u.cues)) (sym a) (subst (λ v. AllWithin (length (vec_items t.signs)) (vec_items v)) (sym b) h.within);
-      numbers = subst (λ v. length (vec_items v) ≤ 128) (sym b) h.numbers;
-      room = subst (λ v. 1025 ≤ vec_capacity v) (sym c) h.room;
     }

@@ -3,13 +3,17 @@ use Rattle.std.specs.Prelude.{◌≡◌, ℕ, ◌+◌, ◌≤◌, true, List, le
 use Rattle.book.specs.Cues.{AllWithin, parts_of}
 use Rattle.book.specs.declared.cue.Cue.{Cue}
 use Rattle.matching.specs.Calls.{total}
-use Rattle.matching.specs.Match.{distinct}
-use Rattle.links_theory.specs.Entries.{Sound, Growing, done, Marked, Ready}
+use Rattle.matching.specs.Match.{distinct, sightings}
+use Rattle.links_theory.specs.Entries.{path, Sound, Growing, done, Marked, Ready}
 use Rattle.links.specs.declared.table.Table.{Table}
 
 -- the cues of a table
 abbrev pub cues_in : Table → List (List ℕ)
 cues_in t = parts_of (vec_items t.signs) (vec_items t.cues)
+
+-- the sightings of an entry
+abbrev pub seen_at : Table → ℕ → List (ℕ × ℕ)
+seen_at t at = sightings (cues_in t) (path (cues_in t) (vec_items t.nodes) at)
 
 abbrev pub SoundIn : Table → Type 0
 SoundIn t = Sound (cues_in t) (vec_items t.nodes) (vec_items t.heads)
@@ -17,11 +21,10 @@ SoundIn t = Sound (cues_in t) (vec_items t.nodes) (vec_items t.heads)
 abbrev pub GrowingIn : Table → ℕ → ℕ → Type 0
 GrowingIn t k i = Growing (cues_in t) (vec_items t.nodes) (vec_items t.heads) (vec_items t.places) k i
 
--- the lists that a build leaves alone, and the memory
+-- a build leaves the signs and the cues alone, and the memory
 pub record Kept (t u : Table) : Type 0 where
   pub signs : u.signs ≡ t.signs
   pub cues : u.cues ≡ t.cues
-  pub wholes : u.wholes ≡ t.wholes
   pub nodes : vec_capacity u.nodes ≡ vec_capacity t.nodes
   pub heads : vec_capacity u.heads ≡ vec_capacity t.heads
   pub places : vec_capacity u.places ≡ vec_capacity t.places
@@ -36,25 +39,16 @@ pub record Building (t : Table) (k i : ℕ) : Type 0 where
   pub room : 1025 ≤ vec_capacity t.nodes
 
 abbrev pub MarkedIn : Table → ℕ → Type 0
-MarkedIn t i = Marked (cues_in t) (vec_items t.nodes) (vec_items t.wholes) i
+MarkedIn t i = Marked (cues_in t) (vec_items t.nodes) i
 
 abbrev pub ReadyIn : Table → ℕ → Type 0
-ReadyIn t at = Ready (cues_in t) (vec_items t.nodes) (vec_items t.heads) (vec_items t.wholes) at
-
--- what a build has made, once the marks are set
-pub record Unmarked (t u : Table) : Type 0 where
-  pub signs : u.signs ≡ t.signs
-  pub cues : u.cues ≡ t.cues
-  pub nodes : u.nodes ≡ t.nodes
-  pub heads : u.heads ≡ t.heads
-  pub places : u.places ≡ t.places
-  pub wholes : vec_capacity u.wholes ≡ vec_capacity t.wholes
+ReadyIn t at = Ready (cues_in t) (vec_items t.nodes) (vec_items t.heads) at
 
 -- memory for any book
 abbrev pub Roomy : Table → Type 0
 Roomy t =
     ((2048 ≤ vec_capacity t.signs) × (128 ≤ vec_capacity t.cues) × (1025 ≤ vec_capacity t.nodes)) ×
-    ((1024 ≤ vec_capacity t.heads) × (128 ≤ vec_capacity t.places) × (1025 ≤ vec_capacity t.wholes))
+    ((1024 ≤ vec_capacity t.heads) × (128 ≤ vec_capacity t.places))
 
 -- what a book promises of its cues
 pub record Bookable (signs : List ℕ) (cues : List Cue) : Type 0 where

@@ -19,7 +19,7 @@ impl Table {
         ensures places { self.new.places ≡ self.old.places }
         ensures kept { Kept self.old self.new }
     {
-        self.nodes[at as usize].link = to;
+        self.nodes[usize::from(at)].link = to;
     }
 
     // Adds an entry, at the head of its chain and with no link yet.
@@ -43,6 +43,7 @@ impl Table {
             link: 0,
             cue,
             len,
+            whole: None,
         });
         self.heads[slot] = at;
         at
@@ -62,8 +63,7 @@ impl Table {
         ensures kept { Kept self.old self.new }
     {
         let parent = self.places[number];
-        let child = self.child(parent, sign);
-        if child != 0 {
+        if let Some(child) = self.child(parent, sign) {
             return child;
         }
         let link = self.link_from(parent, sign);
@@ -93,8 +93,7 @@ impl Table {
         ensures building { Building self.new (k + 1) 0 }
         ensures kept { Kept self.old self.new }
     {
-        let count = self.cues.len();
-        for number in 0..count {
+        for number in 0..self.cues.len() {
             self.grow(number, k);
         }
     }

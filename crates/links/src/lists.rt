@@ -6,22 +6,18 @@ ghost use Rattle.std.specs.Prelude.{◌≡◌, ◌≤◌, length, replicate, vec
 pub(crate) fn fill<T: Copy + Drop>(list: &mut Vec<T>, n: usize, value: T)
     requires { n ≤ vec_capacity list.old }
     ensures items { list.new.items ≡ replicate n value }
-    ensures room { vec_capacity list.new ≡ vec_capacity list.old }
+    ensures room { vec_capacity list.old ≤ vec_capacity list.new }
 {
     list.clear();
-    for _i in 0..n {
-        list.push_reserved(value);
-    }
+    list.resize(n, value).unwrap();
 }
 
 // Makes the list a copy of another.
 pub(crate) fn refill<T: Copy + Drop>(list: &mut Vec<T>, from: &[T])
     requires { length from.now ≤ vec_capacity list.old }
     ensures items { list.new.items ≡ from.now }
-    ensures room { vec_capacity list.new ≡ vec_capacity list.old }
+    ensures room { vec_capacity list.old ≤ vec_capacity list.new }
 {
     list.clear();
-    for x in from {
-        list.push_reserved(*x);
-    }
+    list.extend_from_slice(from).unwrap();
 }

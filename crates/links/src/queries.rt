@@ -1,89 +1,37 @@
-// Reading a table that is built: the sightings of an entry, and the entry of the front of a cue.
+// Reading a table that is built: the sightings of an entry.
 
-ghost use Rattle.std.specs.Prelude.{◌≡◌, ◌<◌, ◌≤◌, [], length, take, None, vec_len, slice_index_or};
-ghost use Rattle.book.specs.Cues.{AllWithin};
-ghost use Rattle.engine.specs.Statements.{ith};
-ghost use Rattle.matching.specs.Match.{sightings};
-ghost use Rattle.links_theory.specs.Entries.{exact_of, node_at, path};
-ghost use Rattle.links.specs.Tables.{cues_in, ReadyIn};
+ghost use Rattle.std.specs.Iterator.{YieldsFirst, item_count};
+ghost use Rattle.links.specs.Tables.{ReadyIn, seen_at};
 
 use crate::table::Table;
 
-impl Table {
-    // How many cues an entry is as a whole: one or none.
-    fn marks(&self, at: u16) -> usize
-        requires { at < vec_len self.now.wholes }
-        ensures { result ≡ length (exact_of (slice_index_or self.now.wholes.items at None) 0) }
-    {
-        match self.wholes[at as usize] {
-            Some(_) => 1,
-            None => 0,
-        }
-    }
+// The sightings of an entry, the longest first: those of the entries along its links that are whole cues
+// (textbook: the output function).
+#[derive(Drop)]
+pub(crate) struct Sightings<'a> {
+    pub(crate) table: &'a Table,
+    pub(crate) at: u16,
+    ghost ready: { ∥ ReadyIn table.now at ∥₁ },
+}
 
-    // The cue that an entry is as a whole, with its length.
-    fn own(&self, at: u16) -> Option<(u16, u16)>
-        requires marks { at < vec_len self.now.wholes }
-        requires within { at < vec_len self.now.nodes }
-        ensures { result ≡ ith 1 (exact_of (slice_index_or self.now.wholes.items at None) (node_at self.now.nodes.items at).len) }
-    {
-        let len = self.node(at).len;
-        match self.wholes[at as usize] {
-            Some(number) => Some((number, len)),
-            None => None,
-        }
-    }
+impl<'a> Iterator for Sightings<'a> {
+    type Item = (u16, u16);
 
-    // How many cues end an entry's beginning: those along its links (textbook: the output function).
-    pub(crate) fn count_from(&self, from: u16) -> usize
-        requires { ReadyIn self.now from }
-        ensures { result ≡ length (sightings (cues_in self.now) (path (cues_in self.now) self.now.nodes.items from)) }
-    {
-        let mut count = 0;
-        let mut at = from;
+    ghost next_gives = { YieldsFirst (λ s. seen_at s.table.now s.at) };
+
+    ghost remaining = { item_count (λ s. seen_at s.table.now s.at) };
+
+    fn next(&mut self) -> Option<(u16, u16)> {
+        let mut at = self.at;
         while at != 0 {
-            count += self.marks(at);
-            at = self.node(at).link;
-        }
-        count
-    }
-
-    // The i-th of them, the longest first, counted from 1.
-    pub(crate) fn pick_from(&self, from: u16, i: usize) -> Option<(u16, u16)>
-        requires { ReadyIn self.now from }
-        ensures { result ≡ ith i (sightings (cues_in self.now) (path (cues_in self.now) self.now.nodes.items from)) }
-    {
-        if i == 0 {
-            return None;
-        }
-        let mut left = i;
-        let mut link = from;
-        while link != 0 {
-            let here = self.marks(link);
-            if left <= here {
-                return self.own(link);
+            let node = self.table.node(at);
+            at = node.link;
+            if let Some(number) = node.whole {
+                self.at = at;
+                return Some((number, node.len));
             }
-            left -= here;
-            link = self.node(link).link;
         }
+        self.at = 0;
         None
-    }
-
-    // The entry of the first `len` signs of a cue, reached from the root sign by sign.
-    pub(crate) fn descend(&self, from: u16, number: usize, len: usize) -> u16
-        requires ready { ReadyIn self.now from }
-        requires within { AllWithin (vec_len self.now.signs) self.now.cues.items }
-        requires number { number < vec_len self.now.cues }
-        requires len { len ≤ length (slice_index_or (cues_in self.now) number []) }
-        ensures within { result < vec_len self.now.nodes }
-        ensures path { path (cues_in self.now) self.now.nodes.items result ≡ take len (slice_index_or (cues_in self.now) number []) }
-    {
-        let place = self.cues[number].place;
-        let mut at = 0;
-        for i in 0..len {
-            let sign = self.signs[place + i];
-            at = self.child(at, sign);
-        }
-        at
     }
 }

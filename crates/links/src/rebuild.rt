@@ -1,8 +1,9 @@
 // Filling the table anew for the cues of a book.
 
-ghost use Rattle.std.specs.Prelude.{◌≡◌, ◌≤◌, length, IfOk, vec_len, vec_capacity};
+ghost use Rattle.std.specs.Prelude.{◌≡◌, true, IfOk, vec_len};
 ghost use Rattle.book.specs.Cues.{AllWithin, parts_of};
-ghost use Rattle.links.specs.Tables.{Building, Bookable, cues_in, MarkedIn, ReadyIn, Roomy, Unmarked};
+ghost use Rattle.matching.specs.Match.{distinct};
+ghost use Rattle.links.specs.Tables.{Building, Bookable, cues_in, Kept, ReadyIn, Roomy};
 
 use crate::lists::{fill, refill};
 use crate::table::{SLOTS, Table};
@@ -17,6 +18,7 @@ const ROOT: Node = Node {
     link: 0,
     cue: 0,
     len: 0,
+    whole: None,
 };
 
 const MATERIAL: usize = 2048;
@@ -35,14 +37,12 @@ impl Table {
         let nodes = Vec::with_capacity(heap, NODES)?;
         let heads = Vec::with_capacity(heap, SLOTS)?;
         let places = Vec::with_capacity(heap, CUES)?;
-        let wholes = Vec::with_capacity(heap, NODES)?;
         Ok(Table {
             signs,
             cues,
             nodes,
             heads,
             places,
-            wholes,
         })
     }
 
@@ -65,16 +65,12 @@ impl Table {
     // Marks the entry of each whole cue by its number.
     fn mark(&mut self)
         requires building { Building self.old 32 0 }
-        requires room { 1025 ≤ vec_capacity self.old.wholes }
-        ensures marked { MarkedIn self.new (length (cues_in self.new)) }
-        ensures kept { Unmarked self.old self.new }
+        requires apart { distinct (cues_in self.old) ≡ true }
+        ensures ready { ReadyIn self.new 0 }
+        ensures kept { Kept self.old self.new }
     {
-        let entries = self.nodes.len();
-        fill(&mut self.wholes, entries, None);
-        let count = self.cues.len();
-        for number in 0..count {
-            let at = self.places[number] as usize;
-            self.wholes[at] = Some(number as u16);
+        for (number, at) in self.places.iter().enumerate() {
+            self.nodes[usize::from(*at)].whole = Some(number as u16);
         }
     }
 

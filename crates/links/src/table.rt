@@ -1,6 +1,6 @@
 // The table of entries: looking up a child, and the walk along the links.
 
-ghost use Rattle.std.specs.Prelude.{◌≡◌, ◌+◌, ◌<◌, ◌&&◌, [], ◌∷◌, ◌++◌, vec_len, ◌==◌};
+ghost use Rattle.std.specs.Prelude.{◌≡◌, ◌+◌, ◌<◌, ◌&&◌, [], ◌∷◌, ◌++◌, vec_len, ◌==◌, IfSome, IfNone};
 ghost use Rattle.matching.specs.Match.{link as link_of};
 ghost use Rattle.links_theory.specs.Entries.{Complete, Found, node_at, path, slot_of, Walked};
 ghost use Rattle.links.specs.Tables.{cues_in, SoundIn};
@@ -20,12 +20,10 @@ pub(crate) struct Table {
     pub(crate) heads: Vec<u16>,
     // While the table is built: the entry of the first signs of each cue.
     pub(crate) places: Vec<u16>,
-    // For each entry the cue that it is as a whole, if it is one.
-    pub(crate) wholes: Vec<Option<u16>>,
 }
 
 // Where a walk ended, and its trials (textbook: goto tests).
-#[derive(Clone, Copy)]
+#[derive(Clone, Copy, Debug)]
 pub(crate) struct Walk {
     pub(crate) at: u16,
     pub(crate) trials: u32,
@@ -36,14 +34,14 @@ pub(crate) fn slot(parent: u16, sign: u16) -> usize
     ensures value { result ≡ slot_of parent sign }
     ensures small { result < 1024 }
 {
-    (parent as usize * 397 + sign as usize) % SLOTS
+    (usize::from(parent) * 397 + usize::from(sign)) % SLOTS
 }
 
 // Whether an entry is the child of `parent` by `sign`.
 fn is_child(node: Node, parent: u16, sign: u16) -> bool
     ensures { result ≡ (node.parent == parent && node.sign == sign) }
 {
-    node.parent == parent && node.sign == sign
+    (node.parent, node.sign) == (parent, sign)
 }
 
 impl Table {
@@ -52,23 +50,24 @@ impl Table {
         requires { at < vec_len self.now.nodes }
         ensures { result ≡ node_at self.now.nodes.items at }
     {
-        self.nodes[at as usize]
+        self.nodes[usize::from(at)]
     }
 
-    // The child of an entry by a sign; 0 where there is none.
-    pub(crate) fn child(&self, parent: u16, sign: u16) -> u16
+    // The child of an entry by a sign.
+    pub(crate) fn child(&self, parent: u16, sign: u16) -> Option<u16>
         requires { SoundIn self.now }
-        ensures { Found self.now.nodes.items parent sign result }
+        ensures some { IfSome result (λ at. (0 < at) × Found self.now.nodes.items parent sign at) }
+        ensures none { IfNone result (Found self.now.nodes.items parent sign 0) }
     {
         let mut at = self.heads[slot(parent, sign)];
         while at != 0 {
             let node = self.node(at);
             if is_child(node, parent, sign) {
-                return at;
+                return Some(at);
             }
             at = node.next;
         }
-        0
+        None
     }
 
     // From an entry along the links to the first with a child by the sign: that child, or the empty
@@ -83,8 +82,7 @@ impl Table {
         let mut trials = 0u32;
         loop {
             trials += 1;
-            let child = self.child(at, sign);
-            if child != 0 {
+            if let Some(child) = self.child(at, sign) {
                 return Walk { at: child, trials };
             }
             if at == 0 {

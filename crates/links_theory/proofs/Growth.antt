@@ -136,6 +136,7 @@ growing_short cues nodes heads places k i g h =
           g.paths c l ∙ ap (λ m. take m (get_or cues c [])) (reach_out k i c (omega arith)) ∙ take_all k (get_or cues c []) (short c z) ∙ sym (take_all (k + 1) (get_or cues c []) (omega (arith, short c z))) ∙ ap (λ m. take m (get_or cues c [])) (sym (reach_in k (i + 1) c (omega arith))))
           (λ (z : c ≡ i → ⊥). g.paths c l ∙ ap (λ m. take m (get_or cues c [])) (sym (reach_other k i c z)))
           (cases_eq c i);
+      plain = g.plain;
     }
   where
     short : (c : ℕ) → c ≡ i → length (get_or cues c []) ≤ k
@@ -155,6 +156,7 @@ growing_placed cues nodes heads places k i r g h w e =
           (λ (z : c ≡ i). ap (path cues nodes) (at c z) ∙ e ∙ ap (λ x. take (k + 1) (get_or cues x [])) (sym z) ∙ ap (λ m. take m (get_or cues c [])) (sym (reach_in k (i + 1) c (omega arith))))
           (λ (z : c ≡ i → ⊥). ap (path cues nodes) (get_or-set_other places i c r 0 z) ∙ g.paths c l ∙ ap (λ m. take m (get_or cues c [])) (sym (reach_other k i c z)))
           (cases_eq c i);
+      plain = g.plain;
     }
   where
     at : (c : ℕ) → c ≡ i → get_or (set places i r) c 0 ≡ r
@@ -172,6 +174,7 @@ growing_level cues nodes heads places k i g h =
       spots = g.spots;
       placed = g.placed;
       paths = λ c l. g.paths c l ∙ ap (λ n. take n (get_or cues c [])) (reach_in k i c (omega arith) ∙ sym (reach_out (k + 1) 0 c (omega arith)));
+      plain = g.plain;
     }
 
 get_d_zeros : (n c : ℕ) → get_or (replicate n zero) c zero ≡ zero
@@ -197,6 +200,7 @@ growing_none cues =
       spots = length-replicate (length cues) zero;
       placed = λ c l. omega (arith, get_d_zeros (length cues) c);
       paths = λ c l. ap (path cues (root_node ∷ [])) (get_d_zeros (length cues) c) ∙ path_empty cues root_node refl ∙ ap (λ n. take n (get_or cues c [])) (sym (reach_out 0 0 c (omega arith)));
+      plain = λ j l. ap (λ i. (node_at (root_node ∷ []) i).whole) (let z : j ≡ 0 = omega arith in z);
     }
 
 -- a new entry for the next sign of a cue
@@ -269,6 +273,10 @@ module _ (cues : List (List ℕ)) (nodes : List Node) (heads places : List ℕ) 
           spots = g.spots;
           placed = λ c a. omega (arith, long, g.placed c a);
           paths = λ c a. ap (path_of cues) (node_old nodes made (get_or places c 0) (g.placed c a)) ∙ g.paths c a;
+          plain = λ j a.
+              ⊎_elim (λ (b : j < length nodes). ap (λ n. n.whole) (node_old nodes made j b) ∙ g.plain j b)
+              (λ (b : length nodes ≤ j). ap (λ i. (node_at (nodes ++ made ∷ []) i).whole) (let z : j ≡ length nodes = omega (arith, long, a) in z) ∙ ap (λ n. n.whole) (node_new nodes made))
+              (cases_lt j (length nodes));
         }
 
     pub made_last : path cues (nodes ++ made ∷ []) (length nodes) ≡ take (k + 1) (get_or cues i [])

@@ -1,5 +1,5 @@
 -- A table is ready in at most one way.
-use Rattle.std.proofs.Common.{◌≡◌, ℕ, List, Option}
+use Rattle.std.proofs.Common.{◌≡◌, ℕ, List}
 use mathlib.Core.Logic.{∥∥₁_elim}
 use denote.Struct.Props.{props}
 use Rattle.links_theory.specs.declared.Node.{Node}
@@ -39,16 +39,15 @@ sound_prop cues nodes heads p q = λ t.
       entries = λ i l h. entry_prop cues nodes i _ (p.entries i l h) (q.entries i l h) t;
     }
 
-pub ready_prop : (cues : List (List ℕ)) (nodes : List Node) (heads : List ℕ) (wholes : List (Option ℕ)) (at : ℕ) → IsProp (Ready cues nodes heads wholes at)
-ready_prop cues nodes heads wholes at p q = λ t.
+pub ready_prop : (cues : List (List ℕ)) (nodes : List Node) (heads : List ℕ) (at : ℕ) → IsProp (Ready cues nodes heads at)
+ready_prop cues nodes heads at p q = λ t.
     record {
       sound = sound_prop cues nodes heads p.sound q.sound t;
       complete = one p.complete q.complete (hlevel props) t;
-      marks = one p.marks q.marks (hlevel props) t;
       whole = one p.whole q.whole (hlevel props) t;
       within = one p.within q.within (hlevel props) t;
     }
 
 -- what the truncated fact says
-pub ready_out : (cues : List (List ℕ)) (nodes : List Node) (heads : List ℕ) (wholes : List (Option ℕ)) (at : ℕ) → ∥ Ready cues nodes heads wholes at ∥₁ → Ready cues nodes heads wholes at
-ready_out cues nodes heads wholes at r = ∥∥₁_elim r (ready_prop cues nodes heads wholes at) (λ x. x)
+pub ready_out : (cues : List (List ℕ)) (nodes : List Node) (heads : List ℕ) (at : ℕ) → ∥ Ready cues nodes heads at ∥₁ → Ready cues nodes heads at
+ready_out cues nodes heads at r = ∥∥₁_elim r (ready_prop cues nodes heads at) (λ x. x)

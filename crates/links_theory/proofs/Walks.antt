@@ -1,5 +1,5 @@
 -- The walk along the links until one sign more fits.
-use Rattle.std.proofs.Common.{◌≡◌, ℕ, zero, suc, ◌+◌, ◌<◌, ◌≤◌, true, false, ◌⊎◌, List, [], ◌∷◌, ◌++◌, length, get_or, None, Option, sym, refl, ap, ◌∙◌, inl, inr, ⊎_elim, arith}
+use Rattle.std.proofs.Common.{◌≡◌, ℕ, zero, suc, ◌+◌, ◌<◌, ◌≤◌, true, false, ◌⊎◌, List, [], ◌∷◌, ◌++◌, length, sym, refl, ap, ◌∙◌, inl, inr, ⊎_elim, arith}
 use Rattle.matching.specs.Match.{beginning, live, link as link_of, standing as standing_of, tries, sightings}
 use Rattle.matching.proofs.Live.{live_itself, walk_right}
 use Rattle.links_theory.specs.declared.Node.{Node}
@@ -97,13 +97,13 @@ module _ (cues : List (List ℕ)) (nodes : List Node) (heads : List ℕ) (s : So
       either (suc i) = inr (omega arith)
 
 -- the sightings along the links
-module _ (cues : List (List ℕ)) (nodes : List Node) (heads : List ℕ) (wholes : List (Option ℕ)) (now : ℕ) (r : Ready cues nodes heads wholes now) where
-  pub sightings_entry : (at : ℕ) → 0 < at → at < length nodes → sightings cues (path cues nodes at) ≡ exact_of (get_or wholes at None) (node_at nodes at).len ++ sightings cues (path cues nodes (node_at nodes at).link)
+module _ (cues : List (List ℕ)) (nodes : List Node) (heads : List ℕ) (now : ℕ) (r : Ready cues nodes heads now) where
+  pub sightings_entry : (at : ℕ) → 0 < at → at < length nodes → sightings cues (path cues nodes at) ≡ exact_of (node_at nodes at).whole (node_at nodes at).len ++ sightings cues (path cues nodes (node_at nodes at).link)
   sightings_entry at p h =
       let s = r.sound in
       let own = path_length cues nodes heads s at h in
       let some = (s.entries at p h).some in
-      sightings_some cues (path cues nodes at) (omega (arith, own, some)) ∙ ap (λ xs. xs ++ sightings cues (link_of cues (path cues nodes at))) (r.whole at p h) ∙ ap (λ b. exact_of (get_or wholes at None) (node_at nodes at).len ++ sightings cues b) (sym (link_path cues nodes heads s at p h).1)
+      sightings_some cues (path cues nodes at) (omega (arith, own, some)) ∙ ap (λ xs. xs ++ sightings cues (link_of cues (path cues nodes at))) (r.whole at p h) ∙ ap (λ b. exact_of (node_at nodes at).whole (node_at nodes at).len ++ sightings cues b) (sym (link_path cues nodes heads s at p h).1)
 
   pub sightings_root : sightings cues (path cues nodes 0) ≡ []
   sightings_root = ap (sightings cues) (path_root cues nodes heads r.sound)

@@ -6,17 +6,22 @@ use Rattle.matching.specs.Match.{live, link as link_of, lowest, tries, exact}
 use Rattle.links_theory.specs.declared.Node.{Node}
 
 abbrev pub root_node : Node
-root_node = record { parent = 0; sign = 0; next = 0; link = 0; cue = 0; len = 0 }
+root_node = record { parent = 0; sign = 0; next = 0; link = 0; cue = 0; len = 0; whole = None }
 
 abbrev pub node_at : List Node → ℕ → Node
 node_at nodes i = slice_index_or nodes i root_node
 
 -- an entry with another link
 abbrev pub linked : Node → ℕ → Node
-linked n to = record { parent = n.parent; sign = n.sign; next = n.next; link = to; cue = n.cue; len = n.len }
+linked n to = record { parent = n.parent; sign = n.sign; next = n.next; link = to; cue = n.cue; len = n.len; whole = n.whole }
 
+-- a new entry, which is no cue as a whole yet
 abbrev pub new_node : ℕ → ℕ → ℕ → ℕ → ℕ → ℕ → Node
-new_node parent sign next link cue len = record { parent = parent; sign = sign; next = next; link = link; cue = cue; len = len }
+new_node parent sign next link cue len = record { parent = parent; sign = sign; next = next; link = link; cue = cue; len = len; whole = None }
+
+-- an entry that is a cue as a whole
+abbrev pub marked : Node → ℕ → Node
+marked n c = record { parent = n.parent; sign = n.sign; next = n.next; link = n.link; cue = n.cue; len = n.len; whole = Some c }
 
 -- the beginning of an entry
 unfoldable pub path_of : List (List ℕ) → Node → List ℕ
@@ -73,7 +78,8 @@ pub record Walked (cues : List (List ℕ)) (nodes : List Node) (from sign at tri
   pub lives : path cues nodes at ≡ live cues (path cues nodes from ++ sign ∷ [])
   pub counts : trials ≡ tries cues (path cues nodes from) sign
 
--- `places` has the entry of the first signs of each cue: k + 1 signs for the first i cues, k for the others
+-- `places` has the entry of the first signs of each cue: k + 1 signs for the first i cues, k for the others; no entry is
+-- marked yet
 abbrev pub reach : ℕ → ℕ → ℕ → ℕ
 reach k i c = cond (nat_lt c i) (k + 1) k
 
@@ -83,6 +89,7 @@ pub record Growing (cues : List (List ℕ)) (nodes : List Node) (heads places : 
   pub spots : length places ≡ length cues
   pub placed : (c : ℕ) → c < length cues → slice_index places c < length nodes
   pub paths : (c : ℕ) → c < length cues → path cues nodes (slice_index places c) ≡ take (reach k i c) (slice_index_or cues c [])
+  pub plain : (j : ℕ) → j < length nodes → (node_at nodes j).whole ≡ None
 
 -- the signs read when the first i cues were read to k + 1 signs, the others to k
 abbrev pub done : ℕ → ℕ → List (List ℕ) → ℕ
@@ -96,15 +103,13 @@ exact_of None k = []
 exact_of (Some c) k = (c, k) ∷ []
 
 -- the marks of the first i cues: an entry is marked by the cue that it is
-pub record Marked (cues : List (List ℕ)) (nodes : List Node) (wholes : List (Option ℕ)) (i : ℕ) : Type 0 where
-  pub long : length wholes ≡ length nodes
-  pub right : (j c : ℕ) → j < length nodes → slice_index_or wholes j None ≡ Some c → (c < length cues) × (slice_index_or cues c [] ≡ path cues nodes j)
-  pub all : (j c : ℕ) → j < length nodes → slice_index_or wholes j None ≡ None → c < i → slice_index_or cues c [] ≢ path cues nodes j
+pub record Marked (cues : List (List ℕ)) (nodes : List Node) (i : ℕ) : Type 0 where
+  pub right : (j c : ℕ) → j < length nodes → (node_at nodes j).whole ≡ Some c → (c < length cues) × (slice_index_or cues c [] ≡ path cues nodes j)
+  pub all : (j c : ℕ) → j < length nodes → (node_at nodes j).whole ≡ None → c < i → slice_index_or cues c [] ≢ path cues nodes j
 
 -- a table that is ready for steps from the entry `at`
-pub record Ready (cues : List (List ℕ)) (nodes : List Node) (heads : List ℕ) (wholes : List (Option ℕ)) (at : ℕ) : Type 0 where
+pub record Ready (cues : List (List ℕ)) (nodes : List Node) (heads : List ℕ) (at : ℕ) : Type 0 where
   pub sound : Sound cues nodes heads
   pub complete : (k : ℕ) → Complete cues nodes k
-  pub marks : length wholes ≡ length nodes
-  pub whole : (i : ℕ) → 0 < i → i < length nodes → exact 0 cues (path cues nodes i) ≡ exact_of (slice_index_or wholes i None) (node_at nodes i).len
+  pub whole : (i : ℕ) → 0 < i → i < length nodes → exact 0 cues (path cues nodes i) ≡ exact_of (node_at nodes i).whole (node_at nodes i).len
   pub within : at < length nodes

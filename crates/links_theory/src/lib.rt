@@ -16,4 +16,6 @@ pub struct Node {
     pub link: u16,
     pub cue: u16,
     pub len: u16,
+    // The cue that the beginning is as a whole, if it is one.
+    pub whole: Option<u16>,
 }

@@ -1,12 +1,15 @@
 // The calls on a link engine.
 
-ghost use Rattle.std.specs.Prelude.{◌≡◌, ◌+◌, ◌<◌, ◌≤◌, min, [], ◌∷◌, ◌++◌, length, IfOk, None, vec_len};
-ghost use Rattle.matching.specs.Match.{live as live_of, tries};
+ghost use Rattle.std.specs.Prelude.{◌≡◌, ◌+◌, ◌<◌, ◌≤◌, min, [], ◌∷◌, ◌++◌, length, take, IfOk, None, vec_len, slice_index_or};
+ghost use Rattle.book.specs.Cues.{answer};
+ghost use Rattle.matching.specs.Match.{live as live_of, sightings, tries};
 ghost use Rattle.engine.specs.Statements.{named, resume_refusal};
 ghost use Rattle.links_theory.specs.Entries.{path};
 ghost use Rattle.links.specs.Engines.{engine_cues, engine_live};
+ghost use Rattle.links.specs.Tables.{seen_at};
 
 use crate::link_engine::LinkEngine;
+use crate::queries::Sightings;
 use crate::table::Table;
 use book::{Book, Cue};
 use engine::Engine;
@@ -40,22 +43,35 @@ impl LinkEngine {
         self.trials = 0;
     }
 
-    // Why a standing would be refused, if it would.
-    fn refusal(&self, standing: (u16, u16)) -> Option<Refusal>
-        ensures { result ≡ resume_refusal (engine_cues self.now) standing }
+    // Whether a standing is granted, or why it is refused.
+    fn check(&self, standing: (u16, u16)) -> Result<(), Refusal>
+        ensures { result ≡ answer (resume_refusal (engine_cues self.now) standing) tt }
     {
-        let number = standing.0 as usize;
-        let len = standing.1 as usize;
-        if number == 0 && len == 0 {
-            return None;
+        if standing == (0, 0) {
+            return Ok(());
         }
-        if number >= self.table.cues.len() {
-            return Some(Refusal::NoSuchCue);
+        let number = usize::from(standing.0);
+        let len = usize::from(standing.1);
+        let cue = self.table.cues.get(number).ok_or(Refusal::NoSuchCue)?;
+        if len > cue.len {
+            return Err(Refusal::BehindCue);
         }
-        if len > self.table.cues[number].len {
-            return Some(Refusal::BehindCue);
+        Ok(())
+    }
+
+    // The entry of the first `len` signs of a cue, reached from the root sign by sign.
+    fn descend(&self, number: usize, len: usize) -> u16
+        requires number { number < length (engine_cues self.now) }
+        requires len { len ≤ length (slice_index_or (engine_cues self.now) number []) }
+        ensures within { result < vec_len self.now.table.nodes }
+        ensures path { path (engine_cues self.now) self.now.table.nodes.items result ≡ take len (slice_index_or (engine_cues self.now) number []) }
+    {
+        let place = self.table.cues[number].place;
+        let mut at = 0;
+        for sign in &self.table.signs[place..place + len] {
+            at = self.table.child(at, *sign).unwrap();
         }
-        None
+        at
     }
 
     // The entry of the beginning that a standing names.
@@ -67,8 +83,19 @@ impl LinkEngine {
         if standing.1 == 0 {
             return 0;
         }
-        self.table
-            .descend(self.at, standing.0 as usize, standing.1 as usize)
+        self.descend(usize::from(standing.0), usize::from(standing.1))
+    }
+}
+
+impl LinkEngine {
+    // The sightings of the live beginning, the longest first.
+    fn sightings(&self) -> Sightings<'_>
+        ensures { seen_at result.table.now result.at ≡ sightings (engine_cues self.now) (engine_live self.now) }
+    {
+        Sightings {
+            table: &self.table,
+            at: self.at,
+        }
     }
 }
 
@@ -109,11 +136,12 @@ impl Engine for LinkEngine {
     }
 
     fn sighted(&self) -> usize {
-        self.table.count_from(self.at)
+        self.sightings().count()
     }
 
     fn sighting(&self, i: usize) -> Option<(u16, u16)> {
-        self.table.pick_from(self.at, i)
+        let before = i.checked_sub(1)?;
+        self.sightings().nth(before)
     }
 
     fn standing(&self) -> (u16, u16) {
@@ -122,13 +150,9 @@ impl Engine for LinkEngine {
     }
 
     fn resume(&mut self, standing: (u16, u16)) -> Result<(), Refusal> {
-        match self.refusal(standing) {
-            Some(refusal) => Err(refusal),
-            None => {
-                let at = self.entry(standing);
-                self.set_live(at);
-                Ok(())
-            }
-        }
+        self.check(standing)?;
+        let at = self.entry(standing);
+        self.set_live(at);
+        Ok(())
     }
 }

@@ -1,8 +1,8 @@
-use Rattle.std.proofs.Common.{refl}
+use Rattle.std.proofs.Common.{ap, ◌∙◌, ◌+◌, ◌*◌, ◌%◌}
 use Rattle.links_theory.specs.Entries.{slot_of}
-use Rattle.links_theory.proofs.Growth.{slot_small}
 use Rattle.links.proofs.table.slot.Goals as goal
 
-pub returns : goal.returns
+pub returns-clause-value : goal.returns-clause-value
 unfolding slot_of
-returns c = record { value = refl; small = slot_small c.args.parent c.args.sign }
+returns-clause-value c =
+    ap (λ p. (p * 397 + c.from-2.result) % 1024) c.from.ensures ∙ ap (λ s. (c.args.parent * 397 + s) % 1024) c.from-2.ensures

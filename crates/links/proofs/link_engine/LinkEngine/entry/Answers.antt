@@ -1,6 +1,5 @@
 use Rattle.std.proofs.Common.{[], get_or, take, vec_items, sym, ap, ◌∙◌, arith}
 use Rattle.links_theory.proofs.Paths.{path_root}
-use Rattle.links_theory.proofs.Parts.{cues_length}
 use Rattle.links.specs.Engines.{engine_cues}
 use Rattle.links.proofs.Opened.{opened}
 use Rattle.links.proofs.Resumes.{granted_is}
@@ -19,9 +18,4 @@ pub descend-requires : goal.descend-requires
 descend-requires c =
     let e = c.args.self.now in
     let g = granted_is (engine_cues e) c.args.standing c.requires c.if-standing-eq0.false in
-    record {
-      ready = opened e;
-      within = e.within;
-      number = omega (arith, g.0, cues_length (vec_items e.table.signs) (vec_items e.table.cues), e.table.cues.ok.0);
-      len = g.1;
-    }
+    record { number = omega (arith, g.0, c.from.ensures); len = grind (arith, g.1, c.from.ensures, c.from-2.ensures) }

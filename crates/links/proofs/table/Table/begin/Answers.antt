@@ -32,6 +32,6 @@ returns c =
       cues = cues;
       room = (
         (omega (arith, c.refill.ensures.room, room.0.0), omega (arith, c.refill-2.ensures.room, room.0.1), omega (arith, c.fill.ensures.room, room.0.2)),
-        (omega (arith, c.fill-2.ensures.room, room.1.0), omega (arith, c.fill-3.ensures.room, room.1.1), room.1.2),
+        (omega (arith, c.fill-2.ensures.room, room.1.0), omega (arith, c.fill-3.ensures.room, room.1.1)),
       );
     }

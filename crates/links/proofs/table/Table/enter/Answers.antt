@@ -1,7 +1,7 @@
-use Rattle.std.proofs.Common.{◌≡◌, ℕ, suc, ◌+◌, ◌<◌, ◌≤◌, List, [], ◌∷◌, ◌++◌, length, get_or, take, vec_items, sym, refl, ap, ◌∙◌, subst, arith, rules}
+use Rattle.std.proofs.Common.{◌≡◌, ℕ, suc, ◌+◌, ◌<◌, ◌≤◌, List, [], ◌∷◌, ◌++◌, length, get_or, take, vec_items, sym, refl, ap, ◌∙◌, arith, rules}
 use Rattle.std.proofs.lemmas.List.{get_or_read, length_push}
 use Rattle.links_theory.specs.declared.Node.{Node}
-use Rattle.links_theory.specs.Entries.{new_node, slot_of, path, Found}
+use Rattle.links_theory.specs.Entries.{new_node, slot_of, path}
 use Rattle.links_theory.proofs.Walks.{complete_less}
 use Rattle.links_theory.proofs.Growth.{parent_within, parent_len, found_path, growing_more, made_last, link_last, growing_moved, done_most, done_more}
 use Rattle.links_theory.proofs.Parts.{cue_short, cues_length}
@@ -25,15 +25,15 @@ roomy : (t : Table) (k i : ℕ) → Building t k i → i < length (cues_in t) �
 roomy t k i b h l =
     omega (arith, b.few, b.fits, done_more k i (cues_in t) h l, done_most k (suc i) (cues_in t))
 
-pub returns-then-child-ne0 : goal.returns-then-child-ne0
-returns-then-child-ne0 c =
+pub returns-in-Some : goal.returns-in-Some
+returns-in-Some c =
     let t = c.args.self.now in
     let b = c.requires.building in
     record {
       growing = b.growing;
       few = omega arith;
-      within = c.child-child.ensures.within;
-      path = found_path (cues_in t) (vec_items t.nodes) (vec_items t.heads) (vec_items t.places) c.args.k c.args.number b.growing c.requires.number c.requires.longer (short t c.args.k c.args.number b) c.index-parent.result.now c.args.sign (place_read t c.args.k c.args.number c.index-parent.result.now b c.requires.number c.index-parent.ensures) c.requires.sign c.child-child.result c.child-child.ensures (omega (arith, c.if-child-ne0.true));
+      within = c.in-Some.ensures.some.1.within;
+      path = found_path (cues_in t) (vec_items t.nodes) (vec_items t.heads) (vec_items t.places) c.args.k c.args.number b.growing c.requires.number c.requires.longer (short t c.args.k c.args.number b) c.index-parent.result.now c.args.sign (place_read t c.args.k c.args.number c.index-parent.result.now b c.requires.number c.index-parent.ensures) c.requires.sign c.in-Some.child c.in-Some.ensures.some.1 c.in-Some.ensures.some.0;
       places = refl;
       kept = kept_same t;
     }
@@ -93,7 +93,7 @@ returns c =
     let told = c.add-at.ensures in
     let set = c.set_link.ensures in
     let kept = kept_more t u v told.kept set.kept in
-    let f : Found (vec_items t.nodes) c.index-parent.result.now c.args.sign 0 = subst (Found (vec_items t.nodes) c.index-parent.result.now c.args.sign) c.if-child-ne0.false c.child-child.ensures in
+    let f = c.in_default.ensures.none in
     let to = c.link_from-link.result in
     let w : to < length (vec_items t.nodes) = omega (arith, c.link_from-link.ensures.within, t.nodes.ok.0) in
     let nodes = link_last (vec_items t.nodes) (vec_items u.nodes) (vec_items v.nodes) _ c.add-at.result to told.nodes told.value set.nodes in

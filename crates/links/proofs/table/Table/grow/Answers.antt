@@ -50,8 +50,8 @@ returns-then-k-cue c =
     let long = length-read t c.args.k c.args.number cue b c.requires.number c.index-cue.ensures in
     let in' : c.args.number < length (cues_in t) = omega (arith, numbered t c.args.number c.requires.number, cues_length (vec_items t.signs) (vec_items t.cues)) in
     let cues = kept_cues t u told.kept in
-    let v : Table = record { signs = u.signs; cues = u.cues; nodes = u.nodes; heads = u.heads; places = with_item u.places c.args.number c.enter-at.result; wholes = u.wholes } in
-    let kept : Kept t v = record { signs = told.kept.signs; cues = told.kept.cues; wholes = told.kept.wholes; nodes = told.kept.nodes; heads = told.kept.heads; places = told.kept.places } in
+    let v : Table = record { signs = u.signs; cues = u.cues; nodes = u.nodes; heads = u.heads; places = with_item u.places c.args.number c.enter-at.result } in
+    let kept : Kept t v = record { signs = told.kept.signs; cues = told.kept.cues; nodes = told.kept.nodes; heads = told.kept.heads; places = told.kept.places } in
     let g = growing_placed (cues_in u) (vec_items u.nodes) (vec_items u.heads) (vec_items u.places) c.args.k c.args.number c.enter-at.result told.growing (omega (arith, in', ap length cues)) told.within told.path in
     record {
       building =

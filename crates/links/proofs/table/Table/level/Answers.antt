@@ -9,6 +9,6 @@ returns c =
     let b = c.loop-number.invariant.0 in
     let kept = c.loop-number.invariant.1 in
     record {
-      building = building_level u c.args.k c.loop-number.number b (omega (arith, ap vec_len kept.cues, u.cues.ok.0, c.len-count.ensures, c.loop-number-test.false));
+      building = building_level u c.args.k c.loop-number.number b (omega (arith, ap vec_len kept.cues, u.cues.ok.0, c.loop-number-test.false));
       kept = kept;
     }

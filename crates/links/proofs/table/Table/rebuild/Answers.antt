@@ -1,32 +1,33 @@
-use Rattle.std.proofs.Common.{length, vec_items, vec_capacity, sym, ap, ◌∙◌, subst, arith}
+use Rattle.std.proofs.Common.{vec_items, vec_capacity, sym, ap, ◌∙◌, subst, arith}
 use Rattle.book.specs.Cues.{AllWithin, parts_of}
 use Rattle.matching.specs.Match.{distinct}
-use Rattle.links_theory.proofs.Marks.{ready}
-use Rattle.links_theory.proofs.Parts.{cue_short}
-use Rattle.links.specs.Tables.{cues_in}
-use Rattle.links.proofs.Steps.{building_same}
+use Rattle.links.specs.Tables.{Kept}
+use Rattle.links.proofs.Steps.{kept_more, kept_cues, within_kept}
 use Rattle.links.proofs.table.Table.rebuild.Goals as goal
+
+pub mark-requires : goal.mark-requires
+mark-requires c =
+    let begun = c.begin.ensures in
+    let all = ap (λ xs. parts_of xs (vec_items c.begin.new.self.cues)) begun.signs ∙ ap (parts_of c.args.signs.now) begun.cues in
+    record {
+      building = c.build.ensures.building;
+      apart = ap distinct (kept_cues c.begin.new.self c.build.new.self c.build.ensures.kept ∙ all) ∙ c.requires.book.apart;
+    }
 
 pub returns : goal.returns
 returns c =
     let begun = c.begin.ensures in
-    let k = c.build.ensures.kept in
-    let m = c.mark.ensures.kept in
-    let t = c.build.new.self in
+    let t = c.begin.new.self in
     let u = c.mark.new.self in
-    let b = building_same t u 32 0 m.signs m.cues m.nodes m.heads m.places c.build.ensures.building in
-    let signs = ap vec_items (m.signs ∙ k.signs) ∙ begun.signs in
-    let cues = ap vec_items (m.cues ∙ k.cues) ∙ begun.cues in
-    let all = ap (λ xs. parts_of xs (vec_items u.cues)) signs ∙ ap (parts_of c.args.signs.now) cues in
+    let kept : Kept t u = kept_more t c.build.new.self u c.build.ensures.kept c.mark.ensures.kept in
+    let all = ap (λ xs. parts_of xs (vec_items t.cues)) begun.signs ∙ ap (parts_of c.args.signs.now) begun.cues in
     let room = begun.room in
     record {
-      ready =
-          ready (cues_in u) (vec_items u.nodes) (vec_items u.heads) (vec_items u.places) (vec_items u.wholes) (length (cues_in u)) b.growing c.mark.ensures.marked (omega arith)
-          (cue_short (vec_items u.signs) (vec_items u.cues) b.within) (ap distinct all ∙ c.requires.book.apart);
-      cues = all;
-      within = subst (λ n. AllWithin n (vec_items u.cues)) (sym u.signs.ok.0) b.within;
+      ready = c.mark.ensures.ready;
+      cues = kept_cues t u kept ∙ all;
+      within = subst (λ n. AllWithin n (vec_items u.cues)) (sym u.signs.ok.0) (within_kept c.build.new.self u c.mark.ensures.kept c.build.ensures.building.within);
       room = (
-        (omega (arith, ap vec_capacity (m.signs ∙ k.signs), room.0.0), omega (arith, ap vec_capacity (m.cues ∙ k.cues), room.0.1), omega (arith, ap vec_capacity m.nodes, k.nodes, room.0.2)),
-        (omega (arith, ap vec_capacity m.heads, k.heads, room.1.0), omega (arith, ap vec_capacity m.places, k.places, room.1.1), omega (arith, m.wholes, ap vec_capacity k.wholes, room.1.2)),
+        (omega (arith, ap vec_capacity kept.signs, room.0.0), omega (arith, ap vec_capacity kept.cues, room.0.1), omega (arith, kept.nodes, room.0.2)),
+        (omega (arith, kept.heads, room.1.0), omega (arith, kept.places, room.1.1)),
       );
     }
