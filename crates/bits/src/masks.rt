@@ -1,44 +1,22 @@
 // The signs of all cues laid end to end, with the mask of each sign.
 
-ghost use Rattle.std.specs.Prelude.{◌≡◌, ℕ, ◌+◌, ◌<◌, ◌≤◌, [], ◌∷◌, ◌++◌, length, IfOk, vec_len, vec_capacity, ◌==◌, slice_index};
+ghost use Rattle.std.specs.Prelude.{◌≡◌, ℕ, ◌+◌, ◌<◌, ◌≤◌, [], ◌∷◌, ◌++◌, length, take, drop, IfOk, vec_len, vec_capacity, ◌==◌, slice_index};
 ghost use Rattle.bits_theory.specs.Words.{bit, high_key, low_key, Marked};
 
+use crate::word::BITS;
 use std::alloc::{AllocError, Global};
-
-const PLACES: usize = 64;
-
-const KEYS: usize = 256;
 
 // The mask of a sign has a bit for each place where the sign stands. It is kept in two tables, by the
 // low and by the high byte of the sign: the mask is what both have.
 #[derive(Drop)]
 pub(crate) struct Masks {
     signs: Vec<u16>,
-    low: Vec<u64>,
-    high: Vec<u64>,
+    low: [u64; 256],
+    high: [u64; 256],
     ghost room: { 64 ≤ vec_capacity signs },
     ghost short: { vec_len signs ≤ 64 },
-    ghost lows: { vec_len low ≡ 256 },
-    ghost highs: { vec_len high ≡ 256 },
-    ghost bylow: { Marked low_key signs.items low.items },
-    ghost byhigh: { Marked high_key signs.items high.items },
-}
-
-// A table with no bit set.
-fn words(heap: Global) -> Result<Vec<u64>, AllocError>
-    ensures { IfOk result (λ v. (vec_len v ≡ 256) × ((k : ℕ) → k < 256 → slice_index v.items k ≡ 0)) }
-{
-    let table = vec![in heap; 0u64; KEYS]?;
-    Ok(table)
-}
-
-// Clears every word of a table.
-fn clear_words(table: &mut [u64])
-    ensures { (v : ℕ) → v < length table.new → slice_index table.new v ≡ 0 }
-{
-    for word in table.iter_mut() {
-        *word = 0;
-    }
+    ghost bylow: { Marked low_key signs.items low },
+    ghost byhigh: { Marked high_key signs.items high },
 }
 
 impl Masks {
@@ -46,10 +24,12 @@ impl Masks {
     pub(crate) fn new(heap: Global) -> Result<Masks, AllocError>
         ensures { IfOk result (λ m. m.signs.items ≡ []) }
     {
-        let signs = Vec::with_capacity(heap, PLACES)?;
-        let low = words(heap)?;
-        let high = words(heap)?;
-        Ok(Masks { signs, low, high })
+        let signs = Vec::with_capacity(heap, BITS)?;
+        Ok(Masks {
+            signs,
+            low: [0; 256],
+            high: [0; 256],
+        })
     }
 
     // The signs are gone.
@@ -57,8 +37,8 @@ impl Masks {
         ensures { self.new.signs.items ≡ [] }
     {
         self.signs.clear();
-        clear_words(self.low.as_mut_slice());
-        clear_words(self.high.as_mut_slice());
+        self.low.fill(0);
+        self.high.fill(0);
     }
 
     // One sign behind the others.
@@ -89,12 +69,12 @@ impl Masks {
         self.signs.len()
     }
 
-    // The sign at a place.
-    pub(crate) fn sign(&self, place: usize) -> u16
-        requires { place < length self.now.signs.items }
-        ensures { result ≡ slice_index self.now.signs.items place }
+    // So many signs from a place on.
+    pub(crate) fn part(&self, place: usize, len: usize) -> &[u16]
+        requires { place + len ≤ length self.now.signs.items }
+        ensures { result.now ≡ take len (drop place self.now.signs.items) }
     {
-        self.signs[place]
+        &self.signs[place..place + len]
     }
 
     // The mask of a sign.

@@ -1,9 +1,9 @@
 -- The bits of `and`, `or`, a shift and a single bit.
-use Rattle.std.proofs.Common.{◌≡◌, ℕ, zero, suc, ◌+◌, ◌-◌, ◌*◌, ◌/◌, ◌%◌, ◌^◌, ◌<◌, false, ◌&&◌, ◌||◌, eqb, List, [], ◌∷◌, ◌++◌, length, get_or, set, sym, refl, ap, ◌∙◌, subst, ap₂, ⊎_elim, mod-lt, pow-suc, div-add-mod', div-one, mul-div_cancel, arith, pow_pos, pow-add}
+use Rattle.std.proofs.Common.{◌≡◌, ℕ, zero, suc, ◌+◌, ◌-◌, ◌*◌, ◌/◌, ◌%◌, ◌^◌, ◌<◌, false, ◌&&◌, ◌||◌, eqb, List, [], ◌∷◌, ◌++◌, length, get_or, set, sym, refl, ap, ◌∙◌, ap₂, ⊎_elim, mod-lt, pow-suc, div-add-mod', div-one, mul-div_cancel, arith, pow_pos, pow-add}
 use native.Mathlib.Nat.{mul-mod_left, div-div-eq-div-mul, div-eq_of_lt, div_self, pow-succ'}
 use lib.Bits.{bit_and, bit_or, and_shr, and_mod, or_shr, or_mod, and_mask}
 use lib.Pow.{pow-lt, mod-mod-pow}
-use Rattle.std.proofs.lemmas.List.{get_or-set_same, get_or-set_other, get_or_append_left, get_or_push, get_or_read, length_push}
+use Rattle.std.proofs.lemmas.List.{get_or-set_same, get_or-set_other, get_or_append_left, get_or_push, length_push}
 use Rattle.std.proofs.lemmas.Bool.{cases_eq, cases_order, eq-eqb, ne_eqb}
 use Rattle.std.proofs.lemmas.Nat.{shl-shr, one_shl, field_of, div_below}
 use Rattle.bits_theory.specs.Words.{bit, low_key, high_key, Marked}
@@ -125,23 +125,3 @@ mask_right signs low high s p a b small l =
     let c = a (s % 256) p (mod-lt s (omega arith)) in
     let d = b (s / 256) p (div_below s 256 256 (omega arith) small) in
     bit_and_lem _ _ p ∙ grind (arith, c, d, keys_same (get_or signs p 0) s)
-
--- The same, as code writes it.
-pub marked_written : (key : ℕ → ℕ) (signs table after : List ℕ) (x at w n : ℕ) → at ≡ key x → w ≡ get_or table at w → n ≡ length signs → after ≡ signs ++ x ∷ [] → length table ≡ 256 → key x < 256 → length signs < 64 → Marked key signs table →
-    Marked key after (set table at (bit_or w (1 * 2 ^ n % 2 ^ 64)))
-marked_written key signs table after x at w n e f g q len small short marks =
-    let lt : at < length table = omega arith in
-    let r : w ≡ get_or table at 0 = get_or_read table at w lt f 0 in
-    let r2 : w ≡ get_or table (key x) 0 = r ∙ ap (λ i. get_or table i 0) e in
-    let t : set table (key x) (bit_or (get_or table (key x) 0) (1 * 2 ^ length signs % 2 ^ 64)) ≡ set table at (bit_or w (1 * 2 ^ n % 2 ^ 64)) = cc in
-    subst (λ s. Marked key s (set table at (bit_or w (1 * 2 ^ n % 2 ^ 64)))) (sym q) (subst (Marked key (signs ++ x ∷ [])) t (marked_push key signs table x len small short marks))
-
--- A sign is in the tables where both keys are read.
-pub mask_read : (signs low high : List ℕ) (s i j a b p : ℕ) → Marked low_key signs low → Marked high_key signs high → s < 65536 → length low ≡ 256 → length high ≡ 256 → i ≡ s % 256 → j ≡ s / 256 → a ≡ get_or low i a → b ≡ get_or high j b → p < length signs →
-    bit (bit_and a b) p ≡ eqb (get_or signs p 0) s
-mask_read signs low high s i j a b p x y small ll lh ei ej ea eb h =
-    let si = mod-lt s {m = 256} (omega arith) in
-    let sj = div_below s 256 256 (omega arith) small in
-    let ra : a ≡ get_or low (s % 256) 0 = get_or_read low i a (omega arith) ea 0 ∙ ap (λ k. get_or low k 0) ei in
-    let rb : b ≡ get_or high (s / 256) 0 = get_or_read high j b (omega arith) eb 0 ∙ ap (λ k. get_or high k 0) ej in
-    ap₂ (λ v w. bit (bit_and v w) p) ra rb ∙ mask_right signs low high s p x y small h

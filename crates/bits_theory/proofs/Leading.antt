@@ -7,9 +7,17 @@ use Rattle.book.specs.declared.cue.Cue.{Cue}
 use Rattle.matching.specs.Match.{begins, beginning, lowest, ends, standing}
 use Rattle.matching.proofs.Live.{lowest_begins, lowest_is, ends_same}
 use Rattle.matching.proofs.Endings.{ends_true}
-use Rattle.bits_theory.specs.Laid.{span_at, Spanned, Exact, top, Lead}
+use Rattle.bits_theory.specs.Laid.{span_at, Spanned, Exact, top}
 use Rattle.bits_theory.proofs.Reach.{length_part, part_at, top_within, top_most, top_set, front_set, begins_front_of}
 use Rattle.bits_theory.proofs.Longest.{ends_length}
+
+-- The best so far, of the first cues: cue `number` is the lowest with a front of length `len` whose
+-- bit is set, where `len` is not 0, and no front that is set is longer.
+pub record Lead (state : ℕ) (spans : List Cue) (done number len : ℕ) : Type 0 where
+  pub none : len ≡ 0 → number ≡ 0
+  pub found : 0 < len → (number < done) × (top state (span_at spans number).place (span_at spans number).len ≡ len)
+  pub lower : (n : ℕ) → n < number → top state (span_at spans n).place (span_at spans n).len < len
+  pub most : (n : ℕ) → n < done → top state (span_at spans n).place (span_at spans n).len ≤ len
 
 pub lead_start : (state : ℕ) (spans : List Cue) → Lead state spans 0 0 0
 lead_start state spans =

@@ -1,12 +1,12 @@
 -- The sightings one by one, each the longest cue below a length that ends the text.
-use Rattle.std.proofs.Common.{◌≡◌, ℕ, zero, suc, ◌+◌, ◌-◌, ◌<◌, ◌≤◌, true, false, List, [], ◌∷◌, length, get_or, Some, None, sym, refl, ap, ◌∙◌, subst, ⊎_elim, arith, length-append}
+use Rattle.std.proofs.Common.{◌≡◌, ℕ, zero, suc, ◌+◌, ◌-◌, ◌<◌, ◌≤◌, true, false, List, [], ◌∷◌, length, get_or, Some, None, sym, refl, ap, ◌∙◌, ⊎_elim, arith, length-append}
 use Rattle.std.proofs.lemmas.Bool.{cases_Bool, cases_lt, cases_eq, or_cases, lt-ltb, le-ltb}
 use Rattle.engine.specs.Statements.{ith}
 use Rattle.matching.specs.Match.{same, ends, exact, sightings, listed, distinct}
 use Rattle.matching.proofs.Sightings.{same_is, same_itself, exact_unlisted}
 use Rattle.matching.proofs.Endings.{ends_true}
 use Rattle.bits_theory.specs.Laws.{CountRight}
-use Rattle.bits_theory.specs.Below.{shorter, Best, Next, endings}
+use Rattle.bits_theory.specs.Below.{shorter, endings}
 
 pub ends_length : (b t : List ℕ) → ends b t ≡ true → length b ≤ length t
 ends_length b t h = let e = ends_true b t h in omega (arith, ap length e.1, length-append e.0 b)
@@ -71,38 +71,9 @@ first_below cues (x ∷ t) n len d l e p h =
     grind (arith, rest, le-ltb (length (x ∷ t)) (suc len) (omega arith), le-ltb (length (x ∷ t)) len (omega arith)))
     (cases_eq (length (x ∷ t)) len)
 
-shorter_one : (t : List ℕ) → shorter 1 t ≡ []
+pub shorter_one : (t : List ℕ) → shorter 1 t ≡ []
 shorter_one [] = refl
 shorter_one (x ∷ t) = grind (arith, shorter_one t, le-ltb (length (x ∷ t)) 1 (omega arith))
-
--- The search for the longest cue below a length.
-pub best_start : (cues : List (List ℕ)) (t : List ℕ) (below : ℕ) → 0 < below → Best cues t below 0 0 0
-best_start cues t below h = record { low = h; found = λ p. absurd (omega arith); most = λ n l. absurd (omega arith) }
-
-pub best_take : (cues : List (List ℕ)) (t : List ℕ) (below i number len : ℕ) → Best cues t below i number len → ends (get_or cues i []) t ≡ true → length (get_or cues i []) < below → len < length (get_or cues i []) → Best cues t below (i + 1) i (length (get_or cues i []))
-best_take cues t below i number len best e l m =
-    record {
-      low = l;
-      found = λ p. (omega arith, refl, e);
-      most = λ n h f b. ⊎_elim (λ (q : n < i). omega (arith, best.most n q f b)) (λ (q : i ≤ n). let same_place : n ≡ i = omega arith in omega (arith, ap (λ j. length (get_or cues j [])) same_place)) (cases_lt n i);
-    }
-
-pub best_keep : (cues : List (List ℕ)) (t : List ℕ) (below i number len : ℕ) → Best cues t below i number len → (ends (get_or cues i []) t ≡ true → length (get_or cues i []) < below → length (get_or cues i []) ≤ len) → Best cues t below (i + 1) number len
-best_keep cues t below i number len best other =
-    record {
-      low = best.low;
-      found = λ p. let f = best.found p in (omega (arith, f.0), f.1, f.2);
-      most = λ n h f b. ⊎_elim (λ (q : n < i). best.most n q f b) (λ (q : i ≤ n). let same_place : n ≡ i = omega arith in subst (λ j. ends (get_or cues j []) t ≡ true → length (get_or cues j []) < below → length (get_or cues j []) ≤ len) (sym same_place) other f b) (cases_lt n i);
-    }
-
-pub best_none : (cues : List (List ℕ)) (t : List ℕ) (below number len : ℕ) → Best cues t below (length cues) number len → len ≡ 0 → Next cues t below None
-best_none cues t below number len best z =
-    pass_over cues t below 0 (omega (arith, best.low)) (λ n l e b. omega (arith, best.most n l e b)) ∙ ap (sightings cues) (shorter_one t)
-
-pub best_some : (cues : List (List ℕ)) (t : List ℕ) (below number len : ℕ) → distinct cues ≡ true → Best cues t below (length cues) number len → 0 < len → Next cues t below (Some (number, len))
-best_some cues t below number len d best p =
-    let f = best.found p in
-    (pass_over cues t below len best.low best.most ∙ first_below cues t number len d f.0 f.1 p f.2, p)
 
 -- There are as many sightings as cues that end the text.
 pub no_endings : (cues : List (List ℕ)) (t : List ℕ) → ((n : ℕ) → n < length cues → ends (get_or cues n []) t ≡ false) → endings cues t ≡ 0

@@ -1,35 +1,44 @@
 -- The steps of the engine's scans over its cues.
-use Rattle.std.proofs.Common.{◌≡◌, ℕ, zero, suc, ◌+◌, ◌-◌, ◌<◌, ◌≤◌, true, false, cond, ◌&&◌, List, [], ◌∷◌, ◌++◌, length, get_or, take, drop, sym, ap, ◌∙◌, subst, add-one, arith, take-suc}
+use Rattle.std.proofs.Common.{◌≡◌, ℕ, suc, ◌+◌, ◌-◌, ◌<◌, ◌≤◌, Bool, true, false, cond, ◌&&◌, List, [], ◌∷◌, length, get_or, count_by, None, Some, sym, refl, ap, ap₂, ◌∙◌, arith}
 use lib.Bits.{bit_and}
-use Rattle.std.proofs.lemmas.List.{at_drop_more, at_drop_all, length-map}
-use Rattle.book.specs.Cues.{part_of, parts_of}
+use Rattle.std.specs.List.{All}
+use Rattle.std.proofs.lemmas.List.Sums.{sum_by-cons}
+use Rattle.std.proofs.lemmas.List.Elements.{All-from_get_or}
+use Rattle.std.proofs.lemmas.List.{length-map}
+use Rattle.book.specs.Cues.{cue_at, part_of, parts_of}
 use Rattle.book.specs.declared.cue.Cue.{Cue}
-use Rattle.matching.specs.Match.{ends, live, sightings}
-use Rattle.matching.proofs.Live.{live_itself}
+use Rattle.matching.specs.Match.{ends, distinct, sightings}
 use Rattle.bits_theory.specs.Words.{bit}
 use Rattle.bits_theory.specs.Laid.{span_at, Spanned, Stops, Exact}
-use Rattle.bits_theory.specs.Below.{endings, Best}
+use Rattle.bits_theory.specs.Below.{Next, endings}
 use Rattle.bits_theory.proofs.Bit.{bit_and_lem, bit_zero}
-use Rattle.bits_theory.proofs.Reach.{length_part, part_at, part_sign, whole_bit, front_begins}
-use Rattle.bits_theory.proofs.Longest.{sightings_count, no_endings, ends_length, best_take, best_keep}
+use Rattle.bits_theory.proofs.Reach.{length_part, part_at, whole_bit}
+use Rattle.bits_theory.proofs.Longest.{sightings_count, no_endings, pass_over, first_below, shorter_one}
 
-parts_some : (signs : List ℕ) (spans : List Cue) → Spanned (length signs) spans → (n : ℕ) → n < length (parts_of signs spans) → 0 < length (get_or (parts_of signs spans) n [])
+pub parts_some : (signs : List ℕ) (spans : List Cue) → Spanned (length signs) spans → (n : ℕ) → n < length (parts_of signs spans) → 0 < length (get_or (parts_of signs spans) n [])
 parts_some signs [] all n h = absurd (omega arith)
 parts_some signs (s ∷ spans) all n h =
     let there : n < length (s ∷ spans) = omega (arith, length-map (s ∷ spans) (part_of signs)) in
     let a = all n there in
     omega (arith, ap length (part_at signs (s ∷ spans) n there), length_part signs (span_at (s ∷ spans) n) a.1, a.0)
 
--- The count of the cues that end the text.
-pub count_more : (signs : List ℕ) (spans : List Cue) (t : List ℕ) (i : ℕ) → i < length spans →
-    endings (drop i (parts_of signs spans)) t ≡ cond (ends (part_of signs (span_at spans i)) t) (suc (endings (drop (i + 1) (parts_of signs spans)) t)) (endings (drop (i + 1) (parts_of signs spans)) t)
-count_more signs spans t i h =
-    let e = at_drop_more (λ cs. endings cs t) (parts_of signs spans) i [] (omega (arith, length-map spans (part_of signs))) in
-    e ∙ ap (λ c. cond (ends c t) (suc (endings (drop (i + 1) (parts_of signs spans)) t)) (endings (drop (i + 1) (parts_of signs spans)) t)) (part_at signs spans i h)
+-- The same of each cue in turn, in numbers of a word's places.
+pub spans_lie : (signs : List ℕ) (spans : List Cue) → length signs ≤ 64 → Spanned (length signs) spans → All (λ s. (1 ≤ s.len) × (s.place + s.len ≤ 64)) spans
+spans_lie signs spans short all =
+    All-from_get_or (λ (s : Cue). (1 ≤ s.len) × (s.place + s.len ≤ 64)) spans (cue_at 0 0) (λ i h. ((all i h).0, omega (arith, (all i h).1)))
 
-pub count_all : (signs : List ℕ) (spans : List Cue) (t : List ℕ) (i n : ℕ) → Spanned (length signs) spans → length spans ≤ i → n + endings (drop i (parts_of signs spans)) t ≡ endings (parts_of signs spans) t → n ≡ length (sightings (parts_of signs spans) t)
-count_all signs spans t i n all h e =
-    omega (arith, sightings_count (parts_of signs spans) t (parts_some signs spans all), at_drop_all (λ cs. endings cs t) (parts_of signs spans) i (omega (arith, length-map spans (part_of signs))))
+cond_suc : (b : Bool) (n : ℕ) → cond b (suc n) n ≡ cond b 1 0 + n
+cond_suc true n = omega arith
+cond_suc false n = omega arith
+
+-- The cues that end the text are those whose last bit is set.
+pub endings_set : (state : ℕ) (signs : List ℕ) (spans : List Cue) (t : List ℕ) → Spanned (length signs) spans → Exact state signs spans t → endings (parts_of signs spans) t ≡ count_by (λ s. bit state (s.place + s.len - 1)) spans
+endings_set state signs [] t all exact = refl
+endings_set state signs (s ∷ spans) t all exact =
+    let more = sum_by-cons (λ (c : Cue). cond (bit state (c.place + c.len - 1)) 1 0) s spans in
+    let rest = endings_set state signs spans t (λ i h. all (suc i) (omega arith)) (λ i k h. exact (suc i) k h) in
+    let here : bit state (s.place + s.len - 1) ≡ ends (part_of signs s) t = whole_bit state signs (s ∷ spans) t 0 all exact (omega arith) in
+    ap₂ (λ b n. cond b (suc n) n) (sym here) rest ∙ (cond_suc _ _ ∙ sym more)
 
 -- No bit of a whole cue is set: none ends the text.
 pub count_none : (state lasts : ℕ) (signs : List ℕ) (spans : List Cue) (t : List ℕ) → Spanned (length signs) spans → Stops lasts spans → Exact state signs spans t → bit_and state lasts ≡ 0 → length (sightings (parts_of signs spans) t) ≡ 0
@@ -49,20 +58,7 @@ count_none state lasts signs (s ∷ spans) t all stops exact z =
         let both : (bit state (c.place + k) && bit lasts (c.place + k)) ≡ false = sym (bit_and_lem state lasts (c.place + k)) ∙ (ap (λ v. bit v (c.place + k)) z ∙ bit_zero (c.place + k)) in
         ap (λ v. ends v t) (part_at signs (s ∷ spans) n there) ∙ (sym w ∙ grind (arith, both, l))
 
--- One cue of the count.
-pub count_hit : (state : ℕ) (signs : List ℕ) (spans : List Cue) (t : List ℕ) (i n more : ℕ) (s : Cue) → Spanned (length signs) spans → Exact state signs spans t → i < length spans → s ≡ span_at spans i →
-    bit state (s.place + s.len - 1) ≡ true → more ≡ n + 1 → n + endings (drop i (parts_of signs spans)) t ≡ endings (parts_of signs spans) t → more + endings (drop (i + 1) (parts_of signs spans)) t ≡ endings (parts_of signs spans) t
-count_hit state signs spans t i n more s all exact h e b m inv =
-    let w : ends (part_of signs (span_at spans i)) t ≡ true = sym (whole_bit state signs spans t i all exact h) ∙ (ap (λ (c : Cue). bit state (c.place + c.len - 1)) (sym e) ∙ b) in
-    grind (arith, w, count_more signs spans t i h)
-
-pub count_miss : (state : ℕ) (signs : List ℕ) (spans : List Cue) (t : List ℕ) (i n more : ℕ) (s : Cue) → Spanned (length signs) spans → Exact state signs spans t → i < length spans → s ≡ span_at spans i →
-    bit state (s.place + s.len - 1) ≡ false → more ≡ n → n + endings (drop i (parts_of signs spans)) t ≡ endings (parts_of signs spans) t → more + endings (drop (i + 1) (parts_of signs spans)) t ≡ endings (parts_of signs spans) t
-count_miss state signs spans t i n more s all exact h e b m inv =
-    let w : ends (part_of signs (span_at spans i)) t ≡ false = sym (whole_bit state signs spans t i all exact h) ∙ (ap (λ (c : Cue). bit state (c.place + c.len - 1)) (sym e) ∙ b) in
-    grind (arith, w, count_more signs spans t i h)
-
--- One cue of the search for the longest.
+-- The last bit of a cue, and its length.
 whole_at : (state : ℕ) (signs : List ℕ) (spans : List Cue) (t : List ℕ) (i : ℕ) (s : Cue) → Spanned (length signs) spans → Exact state signs spans t → i < length spans → s ≡ span_at spans i →
     (bit state (s.place + s.len - 1) ≡ ends (get_or (parts_of signs spans) i []) t) × (length (get_or (parts_of signs spans) i []) ≡ s.len)
 whole_at state signs spans t i s all exact h e = (
@@ -70,29 +66,22 @@ whole_at state signs spans t i s all exact h e = (
   ap length (part_at signs spans i h) ∙ (length_part signs (span_at spans i) (all i h).1 ∙ ap (λ (c : Cue). c.len) (sym e)),
 )
 
-pub best_hit : (state : ℕ) (signs : List ℕ) (spans : List Cue) (t : List ℕ) (below i number len at long : ℕ) (s : Cue) → Spanned (length signs) spans → Exact state signs spans t → i < length spans → s ≡ span_at spans i →
-    Best (parts_of signs spans) t below i number len → bit state (s.place + s.len - 1) ≡ true → s.len < below → len < s.len → at ≡ i → long ≡ s.len → Best (parts_of signs spans) t below (i + 1) at long
-best_hit state signs spans t below i number len at long s all exact h e best b l m ea el =
-    let w = whole_at state signs spans t i s all exact h e in
-    let more = best_take (parts_of signs spans) t below i number len best (sym w.0 ∙ b) (omega (arith, w.1)) (omega (arith, w.1)) in
-    subst (λ n. Best (parts_of signs spans) t below (i + 1) n long) (sym ea) (subst (Best (parts_of signs spans) t below (i + 1) i) (w.1 ∙ sym el) more)
+-- No cue below a length has its last bit set: no sighting is shorter.
+pub next_none : (state : ℕ) (signs : List ℕ) (spans : List Cue) (t : List ℕ) (below : ℕ) → Spanned (length signs) spans → Exact state signs spans t → 0 < below →
+    ((c : ℕ) → c < length spans → (span_at spans c).len < below → bit state ((span_at spans c).place + (span_at spans c).len - 1) ≡ true → ⊥) → Next (parts_of signs spans) t below None
+next_none state signs spans t below all exact some none =
+    pass_over (parts_of signs spans) t below 0 some
+    (λ n l e b. let h : n < length spans = omega (arith, length-map spans (part_of signs)) in let w = whole_at state signs spans t n (span_at spans n) all exact h refl in absurd (none n h (omega (arith, w.1)) (w.0 ∙ e))) ∙
+    ap (sightings (parts_of signs spans)) (shorter_one t)
 
-pub best_miss : (state : ℕ) (signs : List ℕ) (spans : List Cue) (t : List ℕ) (below i number len at long : ℕ) (s : Cue) → Spanned (length signs) spans → Exact state signs spans t → i < length spans → s ≡ span_at spans i →
-    Best (parts_of signs spans) t below i number len → (bit state (s.place + s.len - 1) ≡ true → s.len < below → s.len ≤ len) → at ≡ number → long ≡ len → Best (parts_of signs spans) t below (i + 1) at long
-best_miss state signs spans t below i number len at long s all exact h e best other ea el =
-    let w = whole_at state signs spans t i s all exact h e in
-    let more = best_keep (parts_of signs spans) t below i number len best (λ v l. omega (arith, w.1, other (w.0 ∙ v) (omega (arith, w.1)))) in
-    subst (λ n. Best (parts_of signs spans) t below (i + 1) n long) (sym ea) (subst (Best (parts_of signs spans) t below (i + 1) number) (sym el) more)
-
-pub best_short : (cues : List (List ℕ)) (t : List ℕ) (below done number len : ℕ) → Best cues t below done number len → len ≤ length t
-best_short cues t below done number zero best = omega arith
-best_short cues t below done number (suc k) best = let f = best.found (omega arith) in omega (arith, f.1, ends_length (get_or cues number []) t f.2)
-
--- One sign more of a cue that is resumed.
-pub resume_more : (signs : List ℕ) (spans : List Cue) (number k : ℕ) → Spanned (length signs) spans → number < length spans → k < (span_at spans number).len →
-    live (parts_of signs spans) (take k (part_of signs (span_at spans number)) ++ get_or signs ((span_at spans number).place + k) 0 ∷ []) ≡ take (k + 1) (part_of signs (span_at spans number))
-resume_more signs spans number k all h l =
-    let s : Cue = span_at spans number in
-    let more : take (suc k) (part_of signs s) ≡ take k (part_of signs s) ++ get_or (part_of signs s) k 0 ∷ [] = take-suc (part_of signs s) k 0 (omega (arith, length_part signs s (all number h).1)) in
-    let same_sign : take k (part_of signs s) ++ get_or signs (s.place + k) 0 ∷ [] ≡ take (suc k) (part_of signs s) = ap (λ x. take k (part_of signs s) ++ x ∷ []) (sym (part_sign signs s k l)) ∙ sym more in
-    ap (live (parts_of signs spans)) same_sign ∙ (live_itself (parts_of signs spans) (take (suc k) (part_of signs s)) (front_begins signs spans number (suc k) h) ∙ ap (λ n. take n (part_of signs s)) (sym (add-one k)))
+-- The longest cue below a length whose last bit is set is the first sighting there.
+pub next_some : (state : ℕ) (signs : List ℕ) (spans : List Cue) (t : List ℕ) (below number : ℕ) (s : Cue) → Spanned (length signs) spans → Exact state signs spans t → distinct (parts_of signs spans) ≡ true → number < length spans → s ≡ span_at spans number →
+    s.len < below → bit state (s.place + s.len - 1) ≡ true → ((c : ℕ) → c < length spans → (span_at spans c).len < below → bit state ((span_at spans c).place + (span_at spans c).len - 1) ≡ true → (span_at spans c).len ≤ s.len) → Next (parts_of signs spans) t below (Some (number, s.len))
+next_some state signs spans t below number s all exact apart there is short set most =
+    let w = whole_at state signs spans t number s all exact there is in
+    let some : 0 < s.len = omega (arith, ap (λ (c : Cue). c.len) is, (all number there).0) in (
+      pass_over (parts_of signs spans) t below s.len short
+          (λ n l e b. let h : n < length spans = omega (arith, length-map spans (part_of signs)) in let v = whole_at state signs spans t n (span_at spans n) all exact h refl in omega (arith, v.1, most n h (omega (arith, v.1)) (v.0 ∙ e))) ∙
+          first_below (parts_of signs spans) t number s.len apart (omega (arith, length-map spans (part_of signs))) w.1 some (sym w.0 ∙ set),
+      some,
+    )

@@ -93,7 +93,7 @@ begins_front_of zero c = refl
 begins_front_of (suc k) [] = refl
 begins_front_of (suc k) (x ∷ c) = grind (arith, begins_front_of k c)
 
-beginning_some : (cues : List (List ℕ)) (b : List ℕ) → some_begins cues b ≡ true → beginning cues b ≡ true
+pub beginning_some : (cues : List (List ℕ)) (b : List ℕ) → some_begins cues b ≡ true → beginning cues b ≡ true
 beginning_some cues [] h = refl
 beginning_some cues (x ∷ b) h = h
 

@@ -54,11 +54,3 @@ stepped state firsts mask = bit_and (bit_or (state * 2 % 2 ^ 64) firsts) mask
 pub record Stepped (state next s : ℕ) (signs : List ℕ) (spans : List Cue) : Type 0 where
   pub live : reach next signs spans ≡ live (parts_of signs spans) (reach state signs spans ++ s ∷ [])
   pub exact : Exact next signs spans (reach next signs spans)
-
--- The best so far, of the first cues: cue `number` is the lowest with a front of length `len` whose
--- bit is set, where `len` is not 0, and no front that is set is longer.
-pub record Lead (state : ℕ) (spans : List Cue) (done number len : ℕ) : Type 0 where
-  pub none : len ≡ 0 → number ≡ 0
-  pub found : 0 < len → (number < done) × (top state (span_at spans number).place (span_at spans number).len ≡ len)
-  pub lower : (n : ℕ) → n < number → top state (span_at spans n).place (span_at spans n).len < len
-  pub most : (n : ℕ) → n < done → top state (span_at spans n).place (span_at spans n).len ≤ len

@@ -4,7 +4,8 @@ ghost use Rattle.std.specs.Prelude.{◌≡◌};
 ghost use Rattle.bits.specs.Views.{cost_of, cues_of, live_of};
 
 use crate::shift_and::BitEngine;
-use crate::word::{front_len, is_set};
+use crate::shift_and::cues::count_set;
+use crate::word::front_len;
 use book::Book;
 use engine::Engine;
 use events::{Event, Refusal};
@@ -21,11 +22,11 @@ impl Engine for BitEngine {
     ghost cost = { cost_of };
 
     fn load<E: Event>(&mut self, book: &Book<E>) -> Result<(), Refusal> {
-        let room = Self::CAPACITY;
-        if book.total() > room {
+        if book.total() > Self::CAPACITY {
             return Err(Refusal::OverCapacity);
         }
         self.clear();
+        // By number, since the book gives the signs of a cue by its number.
         for number in 0..book.cues().len() {
             self.lay(book.cue_signs(number));
         }
@@ -33,7 +34,7 @@ impl Engine for BitEngine {
     }
 
     fn step(&mut self, sign: u16) {
-        self.advance(sign);
+        self.state = self.next(self.state, sign);
     }
 
     fn restart(&mut self) {
@@ -44,14 +45,7 @@ impl Engine for BitEngine {
         if self.state & self.lasts == 0 {
             return 0;
         }
-        let mut count = 0;
-        let spans = self.spans.as_slice();
-        for c in spans {
-            if is_set(self.state, c.place + c.len - 1) {
-                count += 1;
-            }
-        }
-        count
+        count_set(self.state, &self.spans)
     }
 
     fn sighting(&self, i: usize) -> Option<(u16, u16)> {
@@ -59,50 +53,31 @@ impl Engine for BitEngine {
             return None;
         }
         let mut below = Self::CAPACITY + 1;
-        let mut left = i - 1;
-        while left > 0 {
-            match self.longest_below(below) {
-                Some(s) => below = usize::from(s.1),
-                None => return None,
-            }
-            left -= 1;
+        for _ in 1..i {
+            below = usize::from(self.longest_below(below)?.1);
         }
         self.longest_below(below)
     }
 
     fn standing(&self) -> (u16, u16) {
-        let mut number = 0;
-        let mut longest = 0;
-        let spans = self.spans.as_slice();
-        for (i, c) in spans.iter().enumerate() {
+        // A loop: (0, 0) is the answer where no front is longer, and of equal fronts the lowest cue's
+        // counts, while `max_by_key` gives `None` and the last.
+        let mut best = (0, 0);
+        for (i, c) in self.spans.iter().enumerate() {
             let len = front_len(self.state, c.place, c.len);
-            if longest < len {
-                number = i;
-                longest = len;
+            if best.1 < len {
+                best = (i, len);
             }
         }
-        (number as u16, longest as u16)
+        (best.0 as u16, best.1 as u16)
     }
 
     fn resume(&mut self, standing: (u16, u16)) -> Result<(), Refusal> {
-        let number = usize::from(standing.0);
-        let len = usize::from(standing.1);
-        if number == 0 && len == 0 {
-            self.forget();
-            return Ok(());
+        let mut state = 0;
+        for sign in self.named(standing)? {
+            state = self.next(state, *sign);
         }
-        if number >= self.spans.len() {
-            return Err(Refusal::NoSuchCue);
-        }
-        let c = self.spans[number];
-        if len > c.len {
-            return Err(Refusal::BehindCue);
-        }
-        self.forget();
-        for k in 0..len {
-            let sign = self.masks.sign(c.place + k);
-            self.advance(sign);
-        }
+        self.state = state;
         Ok(())
     }
 }

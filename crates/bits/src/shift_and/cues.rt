@@ -1,17 +1,20 @@
 // How cues are laid into the engine, followed and found.
 
-ghost use Rattle.std.specs.Prelude.{◌≡◌, ◌+◌, ◌≤◌, true, [], ◌∷◌, ◌++◌, length, IfOk};
-ghost use Rattle.matching.specs.Match.{distinct, live};
+ghost use Rattle.std.specs.Prelude.{◌≡◌, ◌+◌, ◌≤◌, true, [], ◌∷◌, ◌++◌, length, IfOk, MatchResult, Some, None, ℕ, ◌<◌, count_by, IfSome};
+ghost use Rattle.std.specs.List.{All};
+ghost use Rattle.std.specs.Option.{IsSomeAnd};
+ghost use Rattle.engine.specs.Statements.{named, resume_refusal};
+ghost use Rattle.matching.specs.Match.{distinct};
 ghost use Rattle.bits_theory.specs.Below.{Next};
-ghost use Rattle.bits.specs.Views.{cost_of, cues_of, live_of, signs_of};
+ghost use Rattle.bits_theory.specs.Laid.{Exact, reach, span_at, Stepped};
+ghost use Rattle.bits.specs.Views.{cost_of, cues_of, live_of, signs_of, whole_set};
 
 use crate::masks::Masks;
 use crate::shift_and::BitEngine;
-use crate::word::is_set;
+use crate::word::{BITS, is_set};
 use book::Cue;
+use events::Refusal;
 use std::alloc::{AllocError, Global};
-
-const CUES: usize = 64;
 
 impl BitEngine {
     // An engine with no cue. It gets all the memory that 64 signs need.
@@ -19,7 +22,7 @@ impl BitEngine {
         ensures { IfOk result (λ e. (cues_of e ≡ []) × (live_of e ≡ []) × (cost_of e ≡ 0)) }
     {
         let masks = Masks::new(heap)?;
-        let spans = Vec::with_capacity(heap, CUES)?;
+        let spans = Vec::with_capacity(heap, BITS)?;
         Ok(BitEngine {
             masks,
             spans,
@@ -72,12 +75,11 @@ impl BitEngine {
 
     // Shift-And: each front whose bit is set grows by a place, a front of one sign begins at each
     // cue, and the mask keeps those whose last place has the sign.
-    pub(super) fn advance(&mut self, sign: u16)
-        ensures masks { self.new.masks ≡ self.old.masks }
-        ensures spans { self.new.spans ≡ self.old.spans }
-        ensures live { live_of self.new ≡ live (cues_of self.old) (live_of self.old ++ sign ∷ []) }
+    pub(super) fn next(&self, state: u64, sign: u16) -> u64
+        requires { Exact state (signs_of self.now) self.now.spans.items (reach state (signs_of self.now) self.now.spans.items) }
+        ensures { Stepped state result sign (signs_of self.now) self.now.spans.items }
     {
-        self.state = ((self.state << 1) | self.firsts) & self.masks.mask(sign);
+        ((state << 1) | self.firsts) & self.masks.mask(sign)
     }
 
     // The longest cue below a length that ends the live beginning: its number and length.
@@ -85,19 +87,50 @@ impl BitEngine {
         requires { 1 ≤ below }
         ensures { Next (cues_of self.now) (live_of self.now) below result }
     {
-        let mut number = 0;
-        let mut longest = 0;
-        let spans = self.spans.as_slice();
-        for (i, c) in spans.iter().enumerate() {
-            let len = c.len;
-            if longest < len && len < below && is_set(self.state, c.place + len - 1) {
-                number = i;
-                longest = len;
-            }
-        }
-        if longest == 0 {
-            return None;
-        }
-        Some((number as u16, longest as u16))
+        let (number, c) = longest_set(self.state, &self.spans, below)?;
+        Some((number as u16, c.len as u16))
     }
+
+    // The beginning that a standing names, or why there is none.
+    pub(super) fn named(&self, standing: (u16, u16)) -> Result<&[u16], Refusal>
+        ensures { MatchResult result (λ b. (resume_refusal (cues_of self.now) standing ≡ None) × (b.now ≡ named (cues_of self.now) standing)) (λ r. resume_refusal (cues_of self.now) standing ≡ Some r) }
+    {
+        let number = usize::from(standing.0);
+        let len = usize::from(standing.1);
+        if number == 0 && len == 0 {
+            return Ok(&[]);
+        }
+        let c = self.spans.get(number).ok_or(Refusal::NoSuchCue)?;
+        if len > c.len {
+            return Err(Refusal::BehindCue);
+        }
+        Ok(self.masks.part(c.place, len))
+    }
+}
+
+// The longest of the cues below a length whose last bit is set, with its number.
+fn longest_set(state: u64, spans: &[Cue], below: usize) -> Option<(usize, &Cue)>
+    requires { All (λ c. (1 ≤ c.len) × (c.place + c.len ≤ 64)) spans.now }
+    ensures number { IfSome result (λ r. r.0 < length spans.now) }
+    ensures cue { IfSome result (λ r. r.1.now ≡ span_at spans.now r.0) }
+    ensures below { IfSome result (λ r. r.1.now.len < below) }
+    ensures set { IfSome result (λ r. whole_set state r.1.now ≡ true) }
+    ensures most { (c : ℕ) → c < length spans.now → (span_at spans.now c).len < below → whole_set state (span_at spans.now c) ≡ true → IsSomeAnd result (λ r. (span_at spans.now c).len ≤ r.1.now.len) }
+{
+    spans
+        .iter()
+        .enumerate()
+        .filter(|(_, c)| c.len < below && is_set(state, c.place + c.len - 1))
+        .max_by_key(|(_, c)| c.len)
+}
+
+// How many cues have their last bit set.
+pub(super) fn count_set(state: u64, spans: &[Cue]) -> usize
+    requires { All (λ c. (1 ≤ c.len) × (c.place + c.len ≤ 64)) spans.now }
+    ensures { result ≡ count_by (whole_set state) spans.now }
+{
+    spans
+        .iter()
+        .filter(|c| is_set(state, c.place + c.len - 1))
+        .count()
 }

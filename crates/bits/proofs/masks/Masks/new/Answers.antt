@@ -1,10 +1,13 @@
-use Rattle.std.proofs.Common.{vec_items, sym, subst, rules}
-use Rattle.bits_theory.specs.Words.{Marked, low_key, high_key}
+use Rattle.std.proofs.Common.{replicate}
+use Rattle.bits_theory.specs.Words.{low_key, high_key}
 use Rattle.bits_theory.proofs.Bit.{marked_none}
+use Rattle.std.proofs.lemmas.List.{get_or-replicate}
 use Rattle.bits.proofs.masks.Masks.new.Goals as goal
 
-pub invariant_of-result : goal.invariant_of-result
-invariant_of-result c =
-    let none = c.in_ok-signs.ensures in
-    let low = c.in_ok-low.ensures in
-    let high = c.in_ok-high.ensures in record { room = search rules; short = search rules; lows = low.0; highs = high.0; bylow = subst (λ s. Marked low_key s (vec_items c.in_ok-low.low)) (sym none.items) (marked_none low_key _ low.1); byhigh = subst (λ s. Marked high_key s (vec_items c.in_ok-high.high)) (sym none.items) (marked_none high_key _ high.1) }
+pub invariant_of-result-clause-bylow : goal.invariant_of-result-clause-bylow
+invariant_of-result-clause-bylow c =
+    rw c.in_ok-signs.ensures.items (marked_none low_key (replicate 256 0) (λ k h. get_or-replicate 256 k 0 0 h))
+
+pub invariant_of-result-clause-byhigh : goal.invariant_of-result-clause-byhigh
+invariant_of-result-clause-byhigh c =
+    rw c.in_ok-signs.ensures.items (marked_none high_key (replicate 256 0) (λ k h. get_or-replicate 256 k 0 0 h))

@@ -1,10 +1,9 @@
 use Rattle.std.proofs.Common.{◌≡◌, take, vec_items}
-use Rattle.book.specs.Cues.{part_of}
-use Rattle.bits_theory.specs.Laid.{reach}
+use Rattle.bits_theory.specs.Laid.{Exact, reach}
 use Rattle.bits.proofs.shift_and.calls.BitEngineEngine.resume.Given as goal
 
-abbrev pub invariant-loop-k : goal.invariant-loop-k
-invariant-loop-k l =
-    (l.self.masks ≡ l.initial.self.masks)
-    × (l.self.spans ≡ l.initial.self.spans)
-    × (reach l.self.state (vec_items l.self.masks.signs) (vec_items l.self.spans) ≡ take l.k (part_of (vec_items l.self.masks.signs) l.c))
+abbrev pub invariant-loop-sign : goal.invariant-loop-sign
+invariant-loop-sign l = record {
+  live : reach l.state (vec_items l.fn.self.masks.signs) (vec_items l.fn.self.spans) ≡ take l.sign-index l.sign-items;
+  exact : Exact l.state (vec_items l.fn.self.masks.signs) (vec_items l.fn.self.spans) (reach l.state (vec_items l.fn.self.masks.signs) (vec_items l.fn.self.spans));
+}

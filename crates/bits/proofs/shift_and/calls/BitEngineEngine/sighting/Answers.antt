@@ -7,11 +7,11 @@ use Rattle.bits_theory.proofs.Longest.{shorter_all}
 use Rattle.bits_theory.proofs.Reach.{reach_short}
 use Rattle.bits.proofs.shift_and.calls.BitEngineEngine.sighting.Goals as goal
 
-pub loop-left-init : goal.loop-left-init
-loop-left-init c =
+pub loop-init : goal.loop-init
+loop-init c =
     let e = c.args.self.now in
     let signs = e.masks.signs.items in
     let spans = e.spans.items in
     let t = reach e.state signs spans in
     let n : c.args.i - 1 + 1 ≡ c.args.i = omega (arith, c.if-i-eq0.false) in
-    (ap₂ (λ i u. ith i (sightings (parts_of signs spans) u)) n (shorter_all 65 t (omega (arith, reach_short e.state signs spans e.spanned, e.masks.short, e.masks.signs.ok.0))), omega arith)
+    record { left = ap₂ (λ i u. ith i (sightings (parts_of signs spans) u)) n (shorter_all 65 t (omega (arith, reach_short e.state signs spans e.spanned, e.masks.short, e.masks.signs.ok.0))); some = omega arith }
