@@ -20,17 +20,8 @@ pub enum Shown<'a, E> {
 fn cue_events<E: Event>(book: &Book<E>, number: usize, len: usize) -> Option<&[E]>
     ensures { option_map (λ x. x.now) result ≡ cue_events (book_held book.now) number len }
 {
-    let cues = book.cues();
-    if number >= cues.len() {
-        return None;
-    }
-    let from = cues[number].place;
-    let events = cues[number].len;
-    if events != len {
-        return None;
-    }
-    let end = from + events;
-    Some(&book.material()[from..end])
+    let cue = book.cues().get(number).filter(|cue| cue.len == len)?;
+    Some(&book.material()[cue.place..cue.place + len])
 }
 
 // The events behind an entry. `log` is a piece of the log and `first` the place of its first event.
@@ -46,16 +37,13 @@ pub fn show<'a, E: Event>(
     ensures whole { OfWhole log.now first entry (shown_of result) }
     ensures same { SameEvents (book_held book.now) entry (shown_of result) }
 {
-    let len = entry.len as usize;
-    let Some(events) = cue_events(book, entry.cue as usize, len) else {
-        return None;
-    };
+    let len = usize::from(entry.len);
+    let events = cue_events(book, usize::from(entry.cue), len)?;
     let behind = entry.place as usize + 1;
     let start = first as usize;
     if start + len <= behind && behind - start <= log.len() {
         let from = behind - len - start;
-        let end = from + len;
-        return Some(Shown::Log(&log[from..end]));
+        return Some(Shown::Log(&log[from..from + len]));
     }
     Some(Shown::Material(events))
 }

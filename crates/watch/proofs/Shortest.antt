@@ -1,24 +1,33 @@
 -- The shortest cue, and the wait.
-use Rattle.std.proofs.Common.{◌≡◌, ℕ, ◌+◌, ◌-◌, ◌<◌, ◌≤◌, min, max, List, [], ◌∷◌, length, get_or, drop, Some, None, Option, sym, refl, ap, ◌∙◌, arith}
-use Rattle.std.proofs.lemmas.List.{at_drop_all, at_drop_more}
+use Rattle.std.proofs.Common.{◌≡◌, ℕ, zero, suc, ◌-◌, min, max, List, [], ◌∷◌, map, length, Some, Option, sym, refl, ap, ◌∙◌, arith}
+use Rattle.std.specs.List.{fold, reduce}
+use Rattle.std.specs.Option.{option_map}
+use Rattle.book.proofs.Adding.{length_part}
+use Rattle.book.specs.Cues.{AllWithin, part_of, parts_of}
+use Rattle.book.specs.Held.{book_held, cue_signs}
+use Rattle.book.specs.declared.cue.Cue.{Cue}
+use Rattle.book.specs.declared.draft.Book.{Book}
 use Rattle.matching.specs.Calls.{Account, stands}
 use Rattle.matching.specs.Match.{live, shortest, standing, wait}
 use Rattle.matching.proofs.Endings.{wait_right}
 use Rattle.watch.specs.After.{NoneEarlier}
+use Rattle.watch.proofs.Books.{book_within}
 
-pub shortest_more : (m : ℕ) (cues : List (List ℕ)) (i : ℕ) → i < length cues → shortest m (drop i cues) ≡ shortest (min m (length (get_or cues i []))) (drop (i + 1) cues)
-shortest_more m cues i h = at_drop_more (shortest m) cues i [] h
+shortest_fold : (signs : List ℕ) (cues : List Cue) → AllWithin (length signs) cues → (m : ℕ) → fold min m (map (λ c. c.len) cues) ≡ shortest m (parts_of signs cues)
+shortest_fold signs [] all m = refl
+shortest_fold signs (c ∷ cues) all m =
+    ap (λ n. fold min (min m n) (map (λ c. c.len) cues)) (sym (length_part signs c (all zero c (omega arith)).2)) ∙
+    shortest_fold signs cues (λ k d h. all (suc k) d (omega arith)) (min m (length (part_of signs c)))
 
-pub shortest_all : (m : ℕ) (cues : List (List ℕ)) (i : ℕ) → length cues ≤ i → shortest m (drop i cues) ≡ m
-shortest_all m cues i h = at_drop_all (shortest m) cues i h
+wait_fold : (signs : List ℕ) (cues : List Cue) → AllWithin (length signs) cues → (k : ℕ) → option_map (λ n. max 1 (n - k)) (reduce min (map (λ c. c.len) cues)) ≡ wait (parts_of signs cues) k
+wait_fold signs [] all k = refl
+wait_fold signs (c ∷ cues) all k =
+    ap (λ m. Some (max 1 (m - k)))
+    (shortest_fold signs cues (λ i d h. all (suc i) d (omega arith)) c.len ∙ ap (λ m. shortest m (parts_of signs cues)) (sym (length_part signs c (all zero c (omega arith)).2)))
 
-pub wait_none : (cues : List (List ℕ)) (k : ℕ) → length cues ≡ 0 → None ≡ wait cues k
-wait_none [] k h = refl
-wait_none (c ∷ cues) k h = absurd (omega arith)
-
-pub wait_some : (cues : List (List ℕ)) (k : ℕ) → 0 < length cues → Some (max 1 (shortest (length (get_or cues 0 [])) cues - k)) ≡ wait cues k
-wait_some [] k h = absurd (omega arith)
-wait_some (c ∷ cues) k h = ap (λ m. Some (max 1 (shortest m cues - k))) (omega arith)
+-- The wait of a book's cues, by the least of their lengths.
+pub wait_least : {E : Type 0} (b : Book E) (k : ℕ) (least : Option ℕ) → least ≡ reduce min (map (λ c. c.len) (book_held b).cues) → option_map (λ n. max 1 (n - k)) least ≡ wait (cue_signs (book_held b)) k
+wait_least b k least is = ap (option_map (λ n. max 1 (n - k))) is ∙ wait_fold (book_held b).signs (book_held b).cues (book_within b) k
 
 standing_length : (cues : List (List ℕ)) (b : List ℕ) → (standing cues b).1 ≡ length b
 standing_length cues [] = refl

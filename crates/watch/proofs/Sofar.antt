@@ -1,13 +1,13 @@
 -- Following one event after another: what is so as far as the loop has come.
-use Rattle.std.proofs.Common.{◌≡◌, ℕ, suc, ◌+◌, ◌-◌, ◌*◌, ◌<◌, ◌≤◌, true, cond, ◌&&◌, ltb, leb, List, [], ◌∷◌, ◌++◌, map, length, get_or, take, drop, sym, refl, ap, ◌∙◌, append_assoc, append-nil, arith, length-append}
+use Rattle.std.proofs.Common.{◌≡◌, ℕ, suc, ◌+◌, ◌-◌, ◌*◌, ◌<◌, ◌≤◌, true, cond, ◌&&◌, ltb, leb, List, [], ◌∷◌, ◌++◌, map, length, get_or, take, drop, Some, None, sym, refl, ap, ◌∙◌, append_assoc, append-nil, arith, length-append}
 use Rattle.std.proofs.lemmas.List.{drop_all, drop_at, drop-drop, drop_more, length-map, map-append, take_at}
-use Rattle.std.proofs.lemmas.Bool.{le-leb, lt-leb, le-ltb, lt-ltb}
 use Rattle.book.specs.declared.entry.Entry.{Entry}
 use Rattle.matching.specs.Follow.{ending_at, entries_at, followed_at, longest_text, placed}
 use Rattle.matching.specs.Match.{beginning, live, sightings}
 use Rattle.matching.proofs.Follow.{length_placed, live_more}
 use Rattle.matching.proofs.Live.{live_itself}
-use Rattle.watch.specs.Following.{entry_at, entry_of}
+use Rattle.watch.specs.Following.{ending_number, entry_at, entry_of, obstacle}
+use Rattle.watch.specs.declared.following.Ending.{Ending}
 
 -- Behind b signs `signs` are followed with the entries `old`; i signs are taken and `written` entries are written.
 pub record Sofar (cues : List (List ℕ)) (b : List ℕ) (len cost : ℕ) (signs : List ℕ) (old : List Entry) (i written : ℕ) (cues' : List (List ℕ)) (b' : List ℕ) (len' cost' : ℕ) (new : List Entry) : Type 0 where
@@ -41,22 +41,26 @@ entries_placed : (p : ℕ) (seen : List (ℕ × ℕ)) → map entry_of (placed p
 entries_placed p [] = refl
 entries_placed p (q ∷ seen) = ap (λ z. entry_at p q ∷ z) (entries_placed p seen)
 
+-- Where no obstacle is, enough entries are free.
+pub free_enough : (len free : ℕ) → None ≡ obstacle len free → 32 ≤ free
+free_enough len free h = grind (arith, h)
+
 module _ (cues : List (List ℕ)) (b : List ℕ) (len cost : ℕ) (signs : List ℕ) (old : List Entry) where
   -- One event more.
   pub sofar_more : {i written : ℕ} {cues' : List (List ℕ)} {b' : List ℕ} {len' cost' : ℕ} {new : List Entry} → Sofar cues b len cost signs old i written cues' b' len' cost' new →
-      (cues'' : List (List ℕ)) (b'' : List ℕ) (len'' cost'' written'' : ℕ) (new'' : List Entry) (s : ℕ) → i < length signs → s ≡ get_or signs i 0 → len' < longest_text → written + 32 ≤ length old →
+      (cues'' : List (List ℕ)) (b'' : List ℕ) (len'' cost'' written'' : ℕ) (new'' : List Entry) (s : ℕ) → i < length signs → s ≡ get_or signs i 0 → None ≡ obstacle len' (length old - written) →
       cues'' ≡ cues' → b'' ≡ live cues' (b' ++ s ∷ []) → len'' ≡ len' + 1 → cost'' + length b'' ≤ cost' + length b' + 2 →
       written'' ≡ written + length (sightings cues (b' ++ s ∷ [])) →
-      new'' ≡ take written new ++ (map (entry_at len') (sightings cues (b' ++ s ∷ [])) ++ drop written'' new) →
+      new'' ≡ take written new ++ (map (entry_at len') (sightings cues (b' ++ s ∷ [])) ++ drop (length (sightings cues (b' ++ s ∷ []))) (drop written new)) →
       Sofar cues b len cost signs old (i + 1) written'' cues'' b'' len'' cost'' new''
-  sofar_more {i} {written} {cues'} {b'} {len'} {cost'} {new} h cues'' b'' len'' cost'' written'' new'' s more is room free same'' went'' long'' cheap'' index list =
+  sofar_more {i} {written} {cues'} {b'} {len'} {cost'} {new} h cues'' b'' len'' cost'' written'' new'' s more is none same'' went'' long'' cheap'' index list =
       let seen = sightings cues (b' ++ s ∷ []) in
       let left = length old - written in
       let next = drop (i + 1) signs in
       let at : b'' ≡ live cues (b' ++ s ∷ []) = went'' ∙ ap (λ cs. live cs (b' ++ s ∷ [])) h.same in
       let cut : drop i signs ≡ s ∷ next = drop_more signs i 0 more ∙ ap (λ x. x ∷ next) (sym is) in
-      let can : ltb len' longest_text ≡ true = lt-ltb len' longest_text room in
-      let roomy : leb 32 left ≡ true = le-leb 32 left (omega arith) in
+      let can : ltb len' longest_text ≡ true = grind (arith, none) in
+      let roomy : leb 32 left ≡ true = grind (arith, none) in
       let both : (ltb len' longest_text && leb 32 left) ≡ true = ap (λ t. t && leb 32 left) can ∙ roomy in
       let fewer : left - length seen ≡ length old - written'' = omega arith in
       let e1 : entries_at cues (live cues (b' ++ s ∷ [])) (len' + 1) (left - length seen) next ≡ entries_at cues b'' len'' (length old - written'') next = cc in
@@ -72,8 +76,7 @@ module _ (cues : List (List ℕ)) (b : List ℕ) (len cost : ℕ) (signs : List 
       let size : length front ≡ written = length-map h.done entry_of ∙ sym h.count in
       let kept : take written new ≡ front = ap (take written) h.wrote ∙ take_at front (drop written old) written size in
       let past : drop written new ≡ drop written old = ap (drop written) h.wrote ∙ drop_at front (drop written old) written size in
-      let tail : drop written'' new ≡ drop written'' old =
-      ap (λ k. drop k new) index ∙ (sym (drop-drop (length seen) written new) ∙ (ap (drop (length seen)) past ∙ (drop-drop (length seen) written old ∙ ap (λ k. drop k old) (sym index)))) in
+      let tail : drop (length seen) (drop written new) ≡ drop written'' old = ap (drop (length seen)) past ∙ (drop-drop (length seen) written old ∙ ap (λ k. drop k old) (sym index)) in
       let both-parts : map entry_of (h.done ++ placed len' seen) ≡ front ++ map (entry_at len') seen = map-append entry_of h.done (placed len' seen) ∙ ap (λ z. front ++ z) (entries_placed len' seen) in
       record {
         same = same'' ∙ h.same;
@@ -82,7 +85,7 @@ module _ (cues : List (List ℕ)) (b : List ℕ) (len cost : ℕ) (signs : List 
         cheap = omega (arith, cheap'', h.cheap);
         done = h.done ++ placed len' seen;
         count = omega (arith, index, h.count, length-append h.done (placed len' seen), length_placed len' seen);
-        wrote = list ∙ (ap (λ z. z ++ (map (entry_at len') seen ++ drop written'' new)) kept ∙ (ap (λ z. front ++ (map (entry_at len') seen ++ z)) tail ∙ (sym (append_assoc front (map (entry_at len') seen) (drop written'' old)) ∙ ap (λ z. z ++ drop written'' old) (sym both-parts))));
+        wrote = list ∙ (ap (λ z. z ++ (map (entry_at len') seen ++ drop (length seen) (drop written new))) kept ∙ (ap (λ z. front ++ (map (entry_at len') seen ++ z)) tail ∙ (sym (append_assoc front (map (entry_at len') seen) (drop written'' old)) ∙ ap (λ z. z ++ drop written'' old) (sym both-parts))));
         rest = append_assoc h.done (placed len' seen) (entries_at cues b'' len'' (length old - written'') next) ∙ (ap (λ z. h.done ++ z) (sym e) ∙ h.rest);
         taken = omega (arith, f, h.taken);
         ended = sym g ∙ h.ended;
@@ -122,23 +125,11 @@ module _ (cues : List (List ℕ)) (b : List ℕ) (len cost : ℕ) (signs : List 
       let z = drop_all i signs all in
       ended_at 0 h (ap (entries_at cues _ _ _) z) (ap (followed_at cues _ _ _) z) (ap (ending_at cues _ _ _) z)
 
-  pub ended_full : {i written : ℕ} {cues' : List (List ℕ)} {b' : List ℕ} {len' cost' : ℕ} {new : List Entry} → Sofar cues b len cost signs old i written cues' b' len' cost' new → i < length signs → longest_text ≤ len' →
-      Ended i written 2 cues' b' len' cost' new
-  ended_full {i} {written} {b' = b'} {len' = len'} h more full =
+  pub ended_early : {i written : ℕ} {cues' : List (List ℕ)} {b' : List ℕ} {len' cost' : ℕ} {new : List Entry} (e : Ending) → Sofar cues b len cost signs old i written cues' b' len' cost' new → i < length signs →
+      Some e ≡ obstacle len' (length old - written) → Ended i written (ending_number e) cues' b' len' cost' new
+  ended_early {i} {written} {b' = b'} {len' = len'} e h more why =
       let cut = drop_more signs i 0 more in
-      let can = le-ltb len' longest_text full in
-      ended_at 2 h
-      (ap (entries_at cues b' len' (length old - written)) cut ∙ grind (arith, can))
-      (ap (followed_at cues b' len' (length old - written)) cut ∙ grind (arith, can))
-      (ap (ending_at cues b' len' (length old - written)) cut ∙ grind (arith, can))
-
-  pub ended_few : {i written : ℕ} {cues' : List (List ℕ)} {b' : List ℕ} {len' cost' : ℕ} {new : List Entry} → Sofar cues b len cost signs old i written cues' b' len' cost' new → i < length signs → len' < longest_text → length old - written < 32 →
-      Ended i written 1 cues' b' len' cost' new
-  ended_few {i} {written} {b' = b'} {len' = len'} h more room few =
-      let cut = drop_more signs i 0 more in
-      let can = lt-ltb len' longest_text room in
-      let roomy = lt-leb 32 (length old - written) few in
-      ended_at 1 h
-      (ap (entries_at cues b' len' (length old - written)) cut ∙ grind (arith, can, roomy))
-      (ap (followed_at cues b' len' (length old - written)) cut ∙ grind (arith, can, roomy))
-      (ap (ending_at cues b' len' (length old - written)) cut ∙ grind (arith, can, roomy))
+      ended_at (ending_number e) h
+      (ap (entries_at cues b' len' (length old - written)) cut ∙ grind (arith, why))
+      (ap (followed_at cues b' len' (length old - written)) cut ∙ grind (arith, why))
+      (ap (ending_at cues b' len' (length old - written)) cut ∙ grind (arith, why))

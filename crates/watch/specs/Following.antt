@@ -1,12 +1,12 @@
 -- What follow answers and writes.
-use Rattle.std.specs.Prelude.{◌≡◌, ℕ, suc, ◌+◌, ◌<◌, ◌≤◌, Bool, List, ◌++◌, map, length, get_or, take, drop, slice_index_or}
+use Rattle.std.specs.Prelude.{◌≡◌, ℕ, suc, ◌+◌, ◌<◌, ◌≤◌, Bool, cond, List, ◌++◌, map, length, get_or, take, drop, Some, None, Option, nat_le, nat_lt, slice_index_or}
 use Rattle.book.specs.Bridge.{EndsSame}
 use Rattle.book.specs.Cues.{cue_at, part_of}
 use Rattle.book.specs.Held.{Held, Signed, cue_signs, lookups}
 use Rattle.book.specs.Signs.{signs_of}
 use Rattle.book.specs.declared.entry.Entry.{Entry}
 use Rattle.matching.specs.Calls.{Account}
-use Rattle.matching.specs.Follow.{ending, entries, followed}
+use Rattle.matching.specs.Follow.{ending, entries, followed, longest_text}
 use Rattle.matching.specs.Match.{Among, sightings}
 use Rattle.watch.specs.declared.following.Ending.{Ending}
 use Rattle.watch.specs.declared.following.Ending.TheVariants.{Done, FewEntries, LongText}
@@ -18,6 +18,10 @@ ending_number Done = 0
 ending_number FewEntries = 1
 ending_number LongText = 2
 
+-- Why no sign more is followed behind so many signs, with so many entries free, if none is.
+abbrev pub obstacle : ℕ → ℕ → Option Ending
+obstacle len free = cond (nat_lt len longest_text) (cond (nat_le 32 free) None (Some FewEntries)) (Some LongText)
+
 -- An entry by its place, cue number and length; the entries of the sightings at one place.
 abbrev pub entry_of : ℕ × ℕ × ℕ → Entry
 entry_of e = record { place = e.0; cue = e.1; len = e.2 }
@@ -25,12 +29,12 @@ entry_of e = record { place = e.0; cue = e.1; len = e.2 }
 abbrev pub entry_at : ℕ → ℕ × ℕ → Entry
 entry_at place q = record { place = place; cue = q.0; len = q.1 }
 
--- The sightings at the end of a text, written as entries of one place from an index on, where there is
--- room for them; r is the index behind them.
-abbrev pub Wrote : List (List ℕ) → List ℕ → ℕ → List Entry → List Entry → ℕ → ℕ → Type 0
-Wrote cues text place old new from r =
-    from + length (sightings cues text) ≤ length old →
-    (r ≡ from + length (sightings cues text)) × (new ≡ take from old ++ (map (entry_at place) (sightings cues text) ++ drop r old))
+-- The sightings at the end of a text, written as entries of one place to the front of a list, where there
+-- is room for them; r is how many were written.
+abbrev pub WroteFirst : List (List ℕ) → List ℕ → ℕ → List Entry → List Entry → ℕ → Type 0
+WroteFirst cues text place old new r =
+    length (sightings cues text) ≤ length old →
+    (r ≡ length (sightings cues text)) × (new ≡ map (entry_at place) (sightings cues text) ++ drop r old)
 
 -- What is followed behind the text that counts: how many signs are taken, how many entries are written,
 -- why it ends, and the list of entries afterwards, of which the later ones are untouched.

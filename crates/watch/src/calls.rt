@@ -17,12 +17,11 @@ use std::alloc::Global;
 
 impl<L: Engine> Watch<L> {
     // A new watch: the empty book is loaded into the engine.
-    pub fn new(heap: Global, engine: L) -> Watch<L>
+    pub fn new(heap: Global, mut engine: L) -> Watch<L>
         ensures { After L.Engine [] result }
     {
         let empty: Book<u8> = Book::empty(heap);
-        let mut engine = engine;
-        let _ = engine.load(&empty);
+        engine.load(&empty).unwrap();
         Watch { engine, len: 0 }
     }
 
@@ -38,13 +37,9 @@ impl<L: Engine> Watch<L> {
         if !has_few_endings(book) {
             return Err(Refusal::ManyEndings);
         }
-        match self.engine.load(book) {
-            Ok(()) => {
-                self.len = 0;
-                Ok(())
-            }
-            Err(refusal) => Err(refusal),
-        }
+        self.engine.load(book)?;
+        self.len = 0;
+        Ok(())
     }
 
     // One sign more.
@@ -75,13 +70,9 @@ impl<L: Engine> Watch<L> {
         ensures leads { Leads L.Engine self.old (resumes standing.0 standing.1) self.new }
         ensures refused { OnErr result (self.new ≡ self.old) }
     {
-        match self.engine.resume(standing) {
-            Ok(()) => {
-                self.len = standing.1 as u32;
-                Ok(())
-            }
-            Err(refusal) => Err(refusal),
-        }
+        self.engine.resume(standing)?;
+        self.len = u32::from(standing.1);
+        Ok(())
     }
 
     // How many cues end the text.

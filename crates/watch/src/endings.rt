@@ -22,23 +22,14 @@ fn endings<E: Event>(book: &Book<E>, number: usize) -> usize
     ensures { result ≡ length (sightings (cue_signs (book_held book.now)) (slice_index_or (cue_signs (book_held book.now)) number [])) }
 {
     let text = book.cue_signs(number);
-    let mut n = 0;
-    for c in 0..book.cues().len() {
-        if is_ending(book.cue_signs(c), text) {
-            n += 1;
-        }
-    }
-    n
+    (0..book.cues().len())
+        .filter(|c| is_ending(book.cue_signs(*c), text))
+        .count()
 }
 
 // Whether no cue of the book has more than 32 cues as endings.
 pub(crate) fn has_few_endings<E: Event>(book: &Book<E>) -> bool
     ensures { result ≡ few_endings (cue_signs (book_held book.now)) (cue_signs (book_held book.now)) }
 {
-    for c in 0..book.cues().len() {
-        if endings(book, c) > ENDINGS {
-            return false;
-        }
-    }
-    true
+    (0..book.cues().len()).all(|c| endings(book, c) <= ENDINGS)
 }

@@ -5,7 +5,7 @@ ghost use Rattle.book.specs.Held.{book_held, lookup, lookups};
 ghost use Rattle.matching.specs.Calls.{follows};
 ghost use Rattle.matching.specs.Match.{live as live_of};
 ghost use Rattle.watch.specs.After.{Always, Leads};
-ghost use Rattle.watch.specs.Following.{ending_number, FollowAnswer, LoadedEvents, Wrote};
+ghost use Rattle.watch.specs.Following.{FollowAnswer, LoadedEvents, obstacle, WroteFirst};
 
 use crate::following::{Ending, Followed};
 use crate::watch::{TEXT, Watch};
@@ -15,61 +15,49 @@ use events::Event;
 
 const FREE: usize = 32;
 
-impl Ending {
-    // The number of this ending.
-    pub fn number(&self) -> u8
-        ensures { result ≡ ending_number self.now }
-    {
-        match self {
-            Ending::Done => 0,
-            Ending::FewEntries => 1,
-            Ending::LongText => 2,
-        }
-    }
-}
-
-// Writes the sightings of an engine as entries of one place, from an index on; the index behind them.
-fn write_sightings<L: Engine>(engine: &L, place: u32, entries: &mut [Entry], from: usize) -> usize
-    requires { from ≤ length entries.old }
-    ensures bound { result ≤ length entries.old }
-    ensures wrote { Wrote (L.Engine.cues engine.now) (L.Engine.live engine.now) place entries.old entries.new from result }
+// Writes the sightings of an engine as entries of one place to the front of the free entries, as many
+// as fit; how many it wrote.
+fn write_sightings<L: Engine>(engine: &L, place: u32, free: &mut [Entry]) -> usize
+    ensures bound { result ≤ length free.old }
+    ensures wrote { WroteFirst (L.Engine.cues engine.now) (L.Engine.live engine.now) place free.old free.new result }
 {
-    let mut at = from;
-    for i in 0..engine.sighted() {
-        if at >= entries.len() {
-            return at;
+    let written = engine.sighted().min(free.len());
+    for i in 0..written {
+        if let Some((cue, len)) = engine.sighting(i + 1) {
+            free[i] = Entry { place, cue, len };
         }
-        let Some((cue, len)) = engine.sighting(i + 1) else {
-            return at;
-        };
-        entries[at] = Entry { place, cue, len };
-        at += 1;
     }
-    at
+    written
 }
 
 impl<L: Engine> Watch<L> {
-    // Takes one event and writes its sightings from an index on; the index behind them.
-    fn follow_one<E: Event>(
-        &mut self,
-        book: &Book<E>,
-        event: &E,
-        entries: &mut [Entry],
-        from: usize,
-    ) -> usize
-        requires room { self.old.len < 9999999 }
-        requires index { from ≤ length entries.old }
+    // Takes one event and writes its sightings to the front of the free entries; how many it wrote.
+    fn follow_one<E: Event>(&mut self, book: &Book<E>, event: &E, free: &mut [Entry]) -> usize
+        requires { self.old.len < 9999999 }
         ensures cues { L.Engine.cues self.new.engine ≡ L.Engine.cues self.old.engine }
         ensures live { L.Engine.live self.new.engine ≡ live_of (L.Engine.cues self.old.engine) (L.Engine.live self.old.engine ++ lookup E.Event.same (book_held book.now) event.now ∷ []) }
         ensures cost { L.Engine.cost self.new.engine + length (L.Engine.live self.new.engine) ≤ L.Engine.cost self.old.engine + length (L.Engine.live self.old.engine) + 2 }
         ensures len { self.new.len ≡ self.old.len + 1 }
-        ensures bound { result ≤ length entries.old }
-        ensures wrote { Wrote (L.Engine.cues self.old.engine) (L.Engine.live self.old.engine ++ lookup E.Event.same (book_held book.now) event.now ∷ []) self.old.len entries.old entries.new from result }
+        ensures bound { result ≤ length free.old }
+        ensures wrote { WroteFirst (L.Engine.cues self.old.engine) (L.Engine.live self.old.engine ++ lookup E.Event.same (book_held book.now) event.now ∷ []) self.old.len free.old free.new result }
     {
         let place = self.len;
         self.engine.step(book.sign(event));
-        self.len = place + 1;
-        write_sightings(&self.engine, place, entries, from)
+        self.len += 1;
+        write_sightings(&self.engine, place, free)
+    }
+
+    // Why no further event is taken, if none is: the text is full or fewer than 32 entries are free.
+    fn obstacle(&self, free: usize) -> Option<Ending>
+        ensures { result ≡ obstacle self.now.len free }
+    {
+        if self.len >= TEXT {
+            Some(Ending::LongText)
+        } else if free < FREE {
+            Some(Ending::FewEntries)
+        } else {
+            None
+        }
     }
 
     // Takes the events in their order and writes their sightings as entries. Before each event it ends
@@ -85,22 +73,15 @@ impl<L: Engine> Watch<L> {
         ensures events { Always L.Engine self.old (LoadedEvents E.Event.same (book_held book.now) events.now (length entries.old)) }
     {
         let mut written = 0;
-        for (i, event) in events.iter().enumerate() {
-            if self.len >= TEXT {
+        for (taken, event) in events.iter().enumerate() {
+            if let Some(ending) = self.obstacle(entries.len() - written) {
                 return Followed {
-                    taken: i,
+                    taken,
                     written,
-                    ending: Ending::LongText,
+                    ending,
                 };
             }
-            if entries.len() - written < FREE {
-                return Followed {
-                    taken: i,
-                    written,
-                    ending: Ending::FewEntries,
-                };
-            }
-            written = self.follow_one(book, event, entries, written);
+            written += self.follow_one(book, event, &mut entries[written..]);
         }
         Followed {
             taken: events.len(),

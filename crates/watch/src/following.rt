@@ -1,14 +1,27 @@
 // What follow answers.
 
-// Why follow ends.
+ghost use Rattle.std.specs.Prelude.{◌≡◌};
+
+// Why follow ends, by number.
 #[derive(Clone, Copy, PartialEq, Eq, Debug)]
 pub enum Ending {
     // all events were taken
-    Done,
+    Done = 0,
     // fewer than 32 entries are free
-    FewEntries,
+    FewEntries = 1,
     // the text has 9,999,999 signs
-    LongText,
+    LongText = 2,
+}
+
+impl Ending {
+    ghost use Rattle.watch.specs.Following.{ending_number};
+
+    // The number of this ending.
+    pub fn number(&self) -> u8
+        ensures { result ≡ ending_number self.now }
+    {
+        *self as u8
+    }
 }
 
 // How many events were taken, how many entries were written, and why it ended.

@@ -1,9 +1,10 @@
 // How many further events must come at least before a cue of a book can end.
 
-ghost use Rattle.std.specs.Prelude.{◌≡◌, [], length, slice_index_or};
+ghost use Rattle.std.specs.Prelude.{◌≡◌, min, map};
+ghost use Rattle.std.specs.List.{reduce};
 ghost use Rattle.book.specs.Held.{book_held, cue_signs};
 ghost use Rattle.matching.specs.Calls.{stands};
-ghost use Rattle.matching.specs.Match.{shortest, wait as wait_of};
+ghost use Rattle.matching.specs.Match.{wait as wait_of};
 ghost use Rattle.watch.specs.After.{Always, NoneEarlier};
 
 use crate::watch::Watch;
@@ -11,15 +12,11 @@ use book::Book;
 use engine::Engine;
 use events::Event;
 
-// The length of the book's shortest cue, or of its first where that is no longer.
-fn shortest_cue<E: Event>(book: &Book<E>) -> usize
-    ensures { result ≡ shortest (length (slice_index_or (cue_signs (book_held book.now)) 0 [])) (cue_signs (book_held book.now)) }
+// The length of the book's shortest cue; none where it has no cue.
+fn shortest_cue<E: Event>(book: &Book<E>) -> Option<usize>
+    ensures { result ≡ reduce min (map (λ c. c.len) (book_held book.now).cues) }
 {
-    let mut least = book.cue_signs(0).len();
-    for c in 0..book.cues().len() {
-        least = least.min(book.cue_signs(c).len());
-    }
-    least
+    book.cues().iter().map(|c| c.len).min()
 }
 
 impl<L: Engine> Watch<L> {
@@ -29,11 +26,8 @@ impl<L: Engine> Watch<L> {
         ensures value { Always L.Engine self.now (λ a. result ≡ wait_of (cue_signs (book_held book.now)) (stands a).1) }
         ensures earlier { Always L.Engine self.now (λ a. a.cues ≡ cue_signs (book_held book.now) → NoneEarlier a result) }
     {
-        if book.cues().is_empty() {
-            return None;
-        }
-        let live = self.standing().1 as usize;
-        let least = shortest_cue(book).saturating_sub(live);
-        Some(least.max(1))
+        let least = shortest_cue(book)?;
+        let live = usize::from(self.standing().1);
+        Some(least.saturating_sub(live).max(1))
     }
 }

@@ -21,5 +21,5 @@ returns g c =
       cost = c.step.ensures.cost;
       len = refl;
       bound = c.write_sightings.ensures.bound;
-      wrote = wrote_same (m.cues v) (m.cues w) text (m.live w) c.args.self.now.len c.args.entries.now _ c.args.from _ seen c.write_sightings.ensures.wrote;
+      wrote = wrote_same (m.cues v) (m.cues w) text (m.live w) c.args.self.now.len c.args.free.now _ _ seen c.write_sightings.ensures.wrote;
     }
