@@ -1,3 +1,4 @@
 mod Answered
-mod Starts
+mod Listed
+mod Reading
 mod Values

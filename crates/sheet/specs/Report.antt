@@ -1,5 +1,5 @@
 -- What the program writes of a cue sheet.
-use Rattle.std.specs.Prelude.{ℕ, ◌+◌, Bool, cond, ◌&&◌, List, [], ◌∷◌, ◌++◌, length, Some, None, Option, ◌==◌, nat_lt}
+use Rattle.std.specs.Prelude.{ℕ, ◌+◌, Bool, cond, List, [], ◌∷◌, ◌++◌, length, Some, None, Ok, Err, Option, Result, nat_lt}
 use Rattle.events.specs.Refused.{number_of}
 use Rattle.events.specs.declared.Refusal.{Refusal}
 use Rattle.events.specs.declared.Refusal.TheVariants.{LongInput}
@@ -7,11 +7,9 @@ use Rattle.book.specs.Held.{Held, add_refused, begun, with_cue}
 use Rattle.book.specs.declared.cue.Cue.{Cue}
 use Rattle.columns.specs.Lines.{lines_of}
 use Rattle.columns.specs.Written.{entry_line, total_line, refusal_line}
-use Rattle.sheet.specs.Rows.{Values, Sheet, read_sheet, cues_from}
-
+use Rattle.sheet.specs.Rows.{Sheet, read_sheet, cues_from}
 -- Two events are the same where kind letter and cart are equal.
-abbrev pub same_values : Values → Values → Bool
-same_values x y = x.1 == y.1 && x.2 == y.2
+pub use Rattle.columns.specs.AsRuns.{same_values}
 
 -- The last line: the totals of the sealed book, or why the line behind the cue lines is refused.
 abbrev pub last_line : {E : Type 0} → Held E → ℕ → Option Refusal → List ℕ
@@ -29,6 +27,11 @@ abbrev pub listing : {E : Type 0} → (E → E → Bool) → Held E → List Cue
 listing same h [] lines stop = last_line h lines stop
 listing same h (c ∷ cs) lines stop =
     cue_line (add_refused same h c.place c.len) c (length h.cues) (listing same (with_cue h c) cs lines stop)
+
+-- A line for a refusal, where there is one, else other lines.
+abbrev pub or_refused : {A : Type 0} → Result A (Refusal × ℕ) → List ℕ → List ℕ
+or_refused (Ok x) lines = lines
+or_refused (Err q) lines = refusal_line (number_of q.0) q.1
 
 abbrev pub sheet_listing : Sheet → List ℕ
 sheet_listing s = listing same_values (begun same_values s.events) (cues_from s.starts (length s.events)) (length s.events) s.stop
