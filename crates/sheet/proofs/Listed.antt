@@ -1,12 +1,12 @@
 -- Cues by their lengths, listed one by one.
-use Rattle.std.proofs.Common.{◌≡◌, ℕ, ◌+◌, ◌-◌, Bool, List, [], ◌∷◌, ◌++◌, map, length, take, Some, None, Ok, Err, Option, Result, MatchResult, sym, refl, ap, ◌∙◌, append_assoc, arith}
+use Rattle.std.proofs.Common.{◌≡◌, ℕ, ◌+◌, ◌-◌, Bool, List, [], ◌∷◌, ◌++◌, map, length, take, Some, Ok, Err, Option, Result, MatchResult, sym, refl, ap, ◌∙◌, arith}
 use Rattle.std.proofs.lemmas.List.{length-map, map-append, take-map}
 use Rattle.std.specs.List.{flat_map}
 use Rattle.std.specs.Result.{result_and, result_err}
 use Rattle.book.specs.Cues.{cue_at}
 use Rattle.book.specs.Held.{Held, add_refused, begun, with_cue}
 use Rattle.columns.specs.AsRuns.{Values, same_as_run, same_values, values_of}
-use Rattle.columns.specs.Written.{entry_line, refusal_line, total_line}
+use Rattle.columns.specs.Written.{refusal_line, total_line}
 use Rattle.columns.specs.declared.asrun.AsRun.{AsRun}
 use Rattle.events.specs.Refused.{number_of}
 use Rattle.events.specs.declared.Refusal.{Refusal}
@@ -16,23 +16,12 @@ use Rattle.sheet.proofs.Values.{listing_map}
 use Rattle.sheet.specs.Report.{cue_line, last_line, listing, or_refused, sheet_listing}
 use Rattle.sheet.specs.Rows.{cues_from, sheet_of, starts_from}
 
--- One cue more is listed, or refused.
-module _ {E : Type 0} (same : E → E → Bool) (h : Held E) (out : List ℕ) (place n : ℕ) (ls ns : List ℕ) (lines : ℕ) (stop : Option Refusal) (split : ls ≡ n ∷ ns) where
-  by_answer : (o : Option Refusal) → add_refused same h place n ≡ o →
-      out ++ listing same h (cues_at place ls) lines stop ≡ out ++ cue_line o (cue_at place n) (length h.cues) (listing same (with_cue h (cue_at place n)) (cues_at (place + n) ns) lines stop)
-  by_answer o is =
-      ap (λ xs. out ++ listing same h (cues_at place xs) lines stop) split ∙
-      ap (λ x. out ++ cue_line x (cue_at place n) (length h.cues) (listing same (with_cue h (cue_at place n)) (cues_at (place + n) ns) lines stop)) is
-
-  pub listed_cue : (h' : Held E) (out' : List ℕ) → add_refused same h place n ≡ None → h' ≡ with_cue h (cue_at place n) → out' ≡ out ++ entry_line place (length h.cues) n →
-      out' ++ listing same h' (cues_at (place + n) ns) lines stop ≡ out ++ listing same h (cues_at place ls) lines stop
-  listed_cue h' out' none held wrote =
-      ap (λ x. out' ++ listing same x (cues_at (place + n) ns) lines stop) held ∙
-      (ap (λ xs. xs ++ listing same (with_cue h (cue_at place n)) (cues_at (place + n) ns) lines stop) wrote ∙
-      (append_assoc out (entry_line place (length h.cues) n) (listing same (with_cue h (cue_at place n)) (cues_at (place + n) ns) lines stop) ∙ sym (by_answer None none)))
-
-  pub listed_refused : (r : Refusal) → add_refused same h place n ≡ Some r → out ++ refusal_line (number_of r) (place + n) ≡ out ++ listing same h (cues_at place ls) lines stop
-  listed_refused r some = sym (by_answer (Some r) some)
+-- A cue is refused.
+pub listed_refused : {E : Type 0} (same : E → E → Bool) (h : Held E) (out : List ℕ) (place n : ℕ) (ls ns : List ℕ) (lines : ℕ) (stop : Option Refusal) (r : Refusal) →
+    ls ≡ n ∷ ns → add_refused same h place n ≡ Some r → out ++ refusal_line (number_of r) (place + n) ≡ out ++ listing same h (cues_at place ls) lines stop
+listed_refused same h out place n ls ns lines stop r split some =
+    sym (ap (λ xs. out ++ listing same h (cues_at place xs) lines stop) split ∙
+    ap (λ o. out ++ cue_line o (cue_at place n) (length h.cues) (listing same (with_cue h (cue_at place n)) (cues_at (place + n) ns) lines stop)) some)
 
 -- Cues that begin one behind the other are those of their lengths.
 cues_tile : (p n : ℕ) (cues : List (List Values)) → n ≡ p + size cues → cues_from (starts_from p cues) n ≡ cues_at p (map length cues)

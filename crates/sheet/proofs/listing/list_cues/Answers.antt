@@ -11,4 +11,4 @@ returns-in-Err c lines stop =
     let lens = c.args.lens.now in
     let h = draft_held c.loop-len.draft in
     let why = answer_err (add_refused same_as_run h c.loop-len.place (get_or lens c.loop-len.len-index 0)) _ c.in-Err.refusal (c.in-Err.ensures.same c.loop-len.invariant.2) in
-    listed_refused same_as_run h _ c.loop-len.place _ _ _ lines stop (drop_more lens c.loop-len.len-index 0 c.loop-len-test.true) c.in-Err.refusal why ∙ c.loop-len.invariant.1 lines stop
+    listed_refused same_as_run h _ c.loop-len.place _ _ _ lines stop c.in-Err.refusal (drop_more lens c.loop-len.len-index 0 c.loop-len-test.true) why ∙ c.loop-len.invariant.1 lines stop
