@@ -1,4 +1,3 @@
-mod Answered
 mod Listed
 mod Reading
 mod Values
