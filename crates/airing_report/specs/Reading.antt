@@ -7,7 +7,6 @@ use Rattle.columns.specs.Lines.{Fields, lines_of, read_line, event_of}
 use Rattle.columns.specs.declared.asrun.AsRun.{AsRun}
 use Rattle.columns.specs.declared.line.Section.TheVariants.{Log as LogSection}
 use Rattle.script.specs.Report.{Contents}
-
 -- What the cue lines say, and what stands behind them.
 pub use Rattle.cue_lines.specs.Reading.{Step, more, next, parts, refused, numbered, step_from, step_of, grown}
 pub use Rattle.cue_lines.specs.Reading.{Rest, lines_left, stopped, read_step, read_cues}

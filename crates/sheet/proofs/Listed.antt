@@ -12,8 +12,9 @@ use Rattle.events.specs.Refused.{number_of}
 use Rattle.events.specs.declared.Refusal.{Refusal}
 use Rattle.script.proofs.Tiling.{length_events}
 use Rattle.script.specs.Booking.{cues_at, size}
+use Rattle.script.specs.Report.{refused_or}
 use Rattle.sheet.proofs.Values.{listing_map}
-use Rattle.sheet.specs.Report.{cue_line, last_line, listing, or_refused, sheet_listing}
+use Rattle.sheet.specs.Report.{cue_line, last_line, listing, sheet_listing}
 use Rattle.sheet.specs.Rows.{cues_from, sheet_of, starts_from}
 
 -- A cue is refused.
@@ -57,17 +58,17 @@ by_values cues end h lens lines held long all =
 -- The last line, where all cues were added; else the refusal.
 last_is : {A E : Type 0} (added both : Result A (Refusal × ℕ)) (end : Result A Refusal) (end' : Result A (Refusal × ℕ)) (h : Held E) (lines : ℕ) →
     MatchResult end (λ x. end' ≡ Ok x) (λ e. end' ≡ Err (e, lines + 1)) → both ≡ result_and added end' →
-    or_refused both (total_line (length h.material) (length h.cues)) ≡ or_refused added (last_line h lines (result_err end))
-last_is (Err q) both end end' h lines told is = ap (λ r. or_refused r (total_line (length h.material) (length h.cues))) is
-last_is (Ok x) both (Ok y) end' h lines told is = ap (λ r. or_refused r (total_line (length h.material) (length h.cues))) (is ∙ told)
-last_is (Ok x) both (Err e) end' h lines told is = ap (λ r. or_refused r (total_line (length h.material) (length h.cues))) (is ∙ told)
+    refused_or (result_err both) (total_line (length h.material) (length h.cues)) ≡ refused_or (result_err added) (last_line h lines (result_err end))
+last_is (Err q) both end end' h lines told is = ap (λ r. refused_or (result_err r) (total_line (length h.material) (length h.cues))) is
+last_is (Ok x) both (Ok y) end' h lines told is = ap (λ r. refused_or (result_err r) (total_line (length h.material) (length h.cues))) (is ∙ told)
+last_is (Ok x) both (Err e) end' h lines told is = ap (λ r. refused_or (result_err r) (total_line (length h.material) (length h.cues))) (is ∙ told)
 
 -- All that is written, by what adding the cues wrote and answered.
 pub all_is : {A : Type 0} (cues : List (List AsRun)) (lens : List ℕ) (lines : ℕ) (begun' after : Held AsRun) (out wrote all : List ℕ) (added both : Result A (Refusal × ℕ)) (end : Result A Refusal) (end' : Result A (Refusal × ℕ)) →
     begun' ≡ begun same_as_run (flat_map (λ c. c) cues) → lens ≡ map length cues → lines ≡ length (flat_map (λ c. c) cues) → out ≡ [] →
-    ((k : ℕ) (stop : Option Refusal) → wrote ++ or_refused added (last_line after k stop) ≡ out ++ listing same_as_run begun' (cues_at 0 lens) k stop) →
+    ((k : ℕ) (stop : Option Refusal) → wrote ++ refused_or (result_err added) (last_line after k stop) ≡ out ++ listing same_as_run begun' (cues_at 0 lens) k stop) →
     MatchResult end (λ x. end' ≡ Ok x) (λ e. end' ≡ Err (e, lines + 1)) → both ≡ result_and added end' →
-    all ≡ wrote ++ or_refused both (total_line (length after.material) (length after.cues)) → all ≡ sheet_listing (sheet_of (map (map values_of) cues) end)
+    all ≡ wrote ++ refused_or (result_err both) (total_line (length after.material) (length after.cues)) → all ≡ sheet_listing (sheet_of (map (map values_of) cues) end)
 all_is cues lens lines begun' after out wrote all added both end end' held long count none listed told is last =
     last ∙ (ap (λ xs. wrote ++ xs) (last_is added both end end' after lines told is) ∙
     (listed lines (result_err end) ∙ (ap (λ xs. xs ++ listing same_as_run begun' (cues_at 0 lens) lines (result_err end)) none ∙ by_values cues end begun' lens lines held long count)))

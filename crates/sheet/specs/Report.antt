@@ -1,5 +1,5 @@
 -- What the program writes of a cue sheet.
-use Rattle.std.specs.Prelude.{ℕ, ◌+◌, Bool, cond, List, [], ◌∷◌, ◌++◌, length, Some, None, Ok, Err, Option, Result, nat_lt}
+use Rattle.std.specs.Prelude.{ℕ, ◌+◌, Bool, cond, List, [], ◌∷◌, ◌++◌, length, Some, None, Option, nat_lt}
 use Rattle.events.specs.Refused.{number_of}
 use Rattle.events.specs.declared.Refusal.{Refusal}
 use Rattle.events.specs.declared.Refusal.TheVariants.{LongInput}
@@ -27,11 +27,6 @@ abbrev pub listing : {E : Type 0} → (E → E → Bool) → Held E → List Cue
 listing same h [] lines stop = last_line h lines stop
 listing same h (c ∷ cs) lines stop =
     cue_line (add_refused same h c.place c.len) c (length h.cues) (listing same (with_cue h c) cs lines stop)
-
--- A line for a refusal, where there is one, else other lines.
-abbrev pub or_refused : {A : Type 0} → Result A (Refusal × ℕ) → List ℕ → List ℕ
-or_refused (Ok x) lines = lines
-or_refused (Err q) lines = refusal_line (number_of q.0) q.1
 
 abbrev pub sheet_listing : Sheet → List ℕ
 sheet_listing s = listing same_values (begun same_values s.events) (cues_from s.starts (length s.events)) (length s.events) s.stop

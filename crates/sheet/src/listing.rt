@@ -1,11 +1,13 @@
 // Adding the cues of a sheet to a draft, with a line for each.
 
 ghost use Rattle.std.specs.Prelude.{◌≡◌, ℕ, ◌^◌, ◌<◌, List, ◌++◌, sum, IfOk, Option as OptionOf};
+ghost use Rattle.std.specs.Result.{result_err};
 ghost use Rattle.book.specs.Held.{draft_held, Signed};
 ghost use Rattle.columns.specs.AsRuns.{same_as_run};
 ghost use Rattle.events.specs.declared.Refusal.{Refusal as RefusalOf};
 ghost use Rattle.script.specs.Booking.{cues_at};
-ghost use Rattle.sheet.specs.Report.{last_line, listing, or_refused};
+ghost use Rattle.script.specs.Report.{refused_or};
+ghost use Rattle.sheet.specs.Report.{last_line, listing};
 
 use book::Draft;
 use columns::{AsRun, entry_line};
@@ -21,7 +23,7 @@ pub(crate) fn list_cues(
 ) -> Result<Result<(), (Refusal, usize)>, AllocError>
     requires signed { Signed same_as_run (draft_held draft.old) }
     requires size { sum lens.now < 2 ^ 63 }
-    ensures { IfOk result (λ r. (lines : ℕ) (stop : OptionOf RefusalOf) → out.new.items ++ or_refused r (last_line (draft_held draft.new) lines stop) ≡ out.old.items ++ listing same_as_run (draft_held draft.old) (cues_at 0 lens.now) lines stop) }
+    ensures { IfOk result (λ r. (lines : ℕ) (stop : OptionOf RefusalOf) → out.new.items ++ refused_or (result_err r) (last_line (draft_held draft.new) lines stop) ≡ out.old.items ++ listing same_as_run (draft_held draft.old) (cues_at 0 lens.now) lines stop) }
 {
     let mut place = 0;
     for len in lens {

@@ -1,10 +1,12 @@
 // The report of a cue sheet: the cues that were added and the totals, or the refusal.
 
 ghost use Rattle.std.specs.Prelude.{◌≡◌, ◌++◌, length, IfOk, MatchResult, OnOk, Ok, Err};
+ghost use Rattle.std.specs.Result.{result_err};
 ghost use Rattle.book.specs.Held.{draft_held};
 ghost use Rattle.columns.specs.Written.{total_line};
 ghost use Rattle.cue_lines.specs.Reading.{values_in};
-ghost use Rattle.sheet.specs.Report.{or_refused, sheet_listing, sheet_report};
+ghost use Rattle.script.specs.Report.{refused_or};
+ghost use Rattle.sheet.specs.Report.{sheet_listing, sheet_report};
 ghost use Rattle.sheet.specs.Rows.{sheet_of};
 
 use crate::listing::list_cues;
@@ -21,7 +23,7 @@ fn write_last(
     draft: Draft<AsRun>,
     end: Result<(), (Refusal, usize)>,
 ) -> Result<(), AllocError>
-    ensures { OnOk result (out.new.items ≡ out.old.items ++ or_refused end (total_line (length (draft_held draft).material) (length (draft_held draft).cues))) }
+    ensures { OnOk result (out.new.items ≡ out.old.items ++ refused_or (result_err end) (total_line (length (draft_held draft).material) (length (draft_held draft).cues))) }
 {
     match end {
         Ok(()) => {
