@@ -22,6 +22,5 @@ pub fn refuse_long(heap: Global) -> Result<Vec<u8>, AllocError>
     ensures { IfOk result (λ v. v.items ≡ too_long_report) }
 {
     let line = refusal_line(u64::from(Refusal::LongInput.number()), 0);
-    let out = Vec::from_slice(heap, &line)?;
-    Ok(out)
+    Vec::from_slice(heap, &line)
 }

@@ -1,11 +1,12 @@
 -- The cues that are read of cue lines are those of the sheet.
-use Rattle.std.proofs.Common.{◌≡◌, ℕ, suc, ◌+◌, ◌<◌, Bool, true, false, cond, eqb, List, [], ◌∷◌, ◌++◌, length, Some, None, Ok, Err, Option, Result, sym, refl, ap, ◌∙◌, append_assoc, append-nil, arith}
-use Rattle.std.proofs.lemmas.Bool.{cond_both, eqb-true}
+use Rattle.std.proofs.Common.{◌≡◌, ℕ, suc, ◌+◌, ◌<◌, Bool, true, false, cond, eqb, ltb, List, [], ◌∷◌, ◌++◌, map, length, Some, None, Ok, Err, Option, Result, sym, refl, ap, ◌∙◌, append_assoc, append-nil, arith}
+use Rattle.std.proofs.lemmas.Bool.{cond_both, cond-false, eqb-true}
 use Rattle.std.proofs.lemmas.Grind.{flat_map-append}
 use Rattle.std.specs.Borrow.{Bor}
 use Rattle.std.specs.List.{flat_map}
 use Rattle.std.specs.Result.{result_and}
-use Rattle.columns.specs.AsRuns.{Values}
+use Rattle.columns.specs.AsRuns.{Values, values_of}
+use Rattle.columns.specs.declared.asrun.AsRun.{AsRun}
 use Rattle.columns.specs.Fields.{number_below}
 use Rattle.columns.specs.Lines.{Fields, cue, log, parting, carts, cue_numbers, cue_says, event_from, kind_field, lines_of, read_line}
 use Rattle.columns.specs.declared.line.Section.TheVariants.{Cues}
@@ -14,6 +15,7 @@ use Rattle.events.specs.declared.Refusal.{Refusal}
 use Rattle.script.proofs.Tiling.{length_events}
 use Rattle.script.specs.Booking.{size}
 use Rattle.script.specs.Listed.{behind_last}
+use Rattle.sheet.specs.Report.{sheet_listing, sheet_report}
 use Rattle.sheet.specs.Rows.{Sheet, events_after, goes_on, kind_from, kind_of, numbered, read_sheet, sheet_of, starts_after, starts_from, stop_of}
 
 -- What a line is.
@@ -111,9 +113,12 @@ as_told : {A : Type 0} (cues : List (List Values)) (behind : Result (Bor (List �
 as_told cues (Ok bytes) x = refl
 as_told cues (Err r) x = refl
 
-pub sheet_read : {A : Type 0} (xs : List ℕ) (begun cues : List (List Values)) (behind : Result (Bor (List ℕ)) Refusal) (x : A) (end : Result A Refusal) →
-    begun ≡ [] → ◌≡◌ {A = List (List Values) × Rest} (cues, rest_of behind) (read_cues begun (lines_of xs)) → end ≡ result_and behind (Ok x) →
-    sheet_of cues end ≡ read_sheet [] [] (lines_of xs)
-sheet_read xs begun cues behind x end none read is =
-    ap (sheet_of cues) is ∙ (as_told cues behind x ∙
-    (ap (λ q. told q.0 q.1) (read ∙ ap (λ b. read_cues b (lines_of xs)) none) ∙ sym (read_told [] (lines_of xs))))
+-- What is listed of the cues that are read is what is written for the input.
+pub report_is : {A : Type 0} (xs : List ℕ) (begun : List (List AsRun)) (cues : List (List Values)) (behind : Result (Bor (List ℕ)) Refusal) (x : A) (end : Result A Refusal) →
+    begun ≡ [] → ◌≡◌ {A = List (List Values) × Rest} (cues, rest_of behind) (read_cues (map (map values_of) begun) (lines_of xs)) → end ≡ result_and behind (Ok x) →
+    ltb 32768 (length xs) ≡ false → sheet_listing (sheet_of cues end) ≡ sheet_report xs
+report_is xs begun cues behind x end none read is short =
+    ap (λ e. sheet_listing (sheet_of cues e)) is ∙
+    (ap sheet_listing (as_told cues behind x ∙
+    (ap (λ q. told q.0 q.1) (read ∙ ap (λ b. read_cues (map (map values_of) b) (lines_of xs)) none) ∙ sym (read_told [] (lines_of xs)))) ∙
+    sym (cond-false (ltb 32768 (length xs)) _ _ short))

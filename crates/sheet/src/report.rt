@@ -68,11 +68,9 @@ pub fn sheet_report(heap: Global, input: &[u8]) -> Result<Vec<u8>, AllocError>
     ensures { IfOk result (λ v. v.items ≡ sheet_report input.now) }
 {
     if is_long(input) {
-        let out = refuse_long(heap)?;
-        return Ok(out);
+        return refuse_long(heap);
     }
     let mut cues = Cues::new(heap);
     let behind = read_cues(&mut cues, input)?;
-    let out = list_sheet(heap, cues, behind.and(Ok(())))?;
-    Ok(out)
+    list_sheet(heap, cues, behind.and(Ok(())))
 }
