@@ -45,8 +45,6 @@ by_values : {A : Type 0} (cues : List (List AsRun)) (end : Result A Refusal) (h 
     h ≡ begun same_as_run (flat_map (λ c. c) cues) → lens ≡ map length cues → lines ≡ length (flat_map (λ c. c) cues) →
     listing same_as_run h (cues_at 0 lens) lines (result_err end) ≡ sheet_listing (sheet_of (map (map values_of) cues) end)
 by_values cues end h lens lines held long all =
-    let events = flat_map (λ c. c) cues in
-    let values = map (map values_of) cues in
     let e = events_map values_of cues in
     let n : length (flat_map (λ c. c) (map (map values_of) cues)) ≡ length (flat_map (λ c. c) cues) = ap length e ∙ length-map (flat_map (λ c. c) cues) values_of in
     let material : take 2048 (flat_map (λ c. c) (map (map values_of) cues)) ≡ map values_of (take 2048 (flat_map (λ c. c) cues)) = ap (take 2048) e ∙ take-map values_of 2048 (flat_map (λ c. c) cues) in
