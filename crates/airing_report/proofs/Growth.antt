@@ -1,7 +1,7 @@
 -- The lines of cues that grow, and the cues that such lines say.
 use Rattle.std.proofs.Common.{◌≡◌, ℕ, suc, ◌+◌, ◌<◌, ◌≤◌, List, [], ◌∷◌, ◌++◌, length, sym, refl, ap, ◌∙◌, arith}
 use Rattle.std.proofs.ByRecursion.{All-push}
-use Rattle.std.proofs.lemmas.List.{append_assoc, append-nil, length-append}
+use Rattle.std.proofs.lemmas.List.{append_assoc, append-nil, flat_map_more, length-append}
 use Rattle.std.specs.List.{flat_map, AllByRecursion}
 use Rattle.columns.specs.Lines.{cue_numbers}
 use Rattle.columns.specs.Written.{cue_line}
@@ -15,16 +15,12 @@ line_of n e = cue_line n e.1 e.2
 abbrev pub SaidCue : List Values → Type 0
 SaidCue c = (1 ≤ length c) × AllByRecursion CueEvent c
 
-joined_push : (f : Values → List ℕ) (c : List Values) (e : Values) → flat_map f (c ++ e ∷ []) ≡ flat_map f c ++ f e
-joined_push f [] e = append-nil (f e)
-joined_push f (d ∷ c) e = ap (λ xs. f d ++ xs) (joined_push f c e) ∙ sym (append_assoc (f d) (flat_map f c) (f e))
-
 -- one event more of the last cue, whose number is m
 pub texts_behind : (n m : ℕ) (cues : List (List Values)) (e : Values) → 0 < length cues → n + length cues ≡ suc m → cue_texts n (behind_last cues e) ≡ cue_texts n cues ++ line_of m e
 texts_behind n m [] e some h = absurd (omega arith)
 texts_behind n m (c ∷ []) e some h =
     let is : m ≡ n = omega arith in
-    append-nil (flat_map (line_of n) (c ++ e ∷ [])) ∙ (joined_push (line_of n) c e ∙ (ap (λ xs. xs ++ line_of n e) (sym (append-nil (flat_map (line_of n) c))) ∙ ap (λ k. (flat_map (line_of n) c ++ []) ++ line_of k e) (sym is)))
+    append-nil (flat_map (line_of n) (c ++ e ∷ [])) ∙ (sym (flat_map_more (line_of n) [] c e) ∙ (ap (λ xs. xs ++ line_of n e) (sym (append-nil (flat_map (line_of n) c))) ∙ ap (λ k. (flat_map (line_of n) c ++ []) ++ line_of k e) (sym is)))
 texts_behind n m (c ∷ (d ∷ cs)) e some h =
     ap (λ xs. flat_map (line_of n) c ++ xs) (texts_behind (suc n) m (d ∷ cs) e (omega arith) (omega arith))
     ∙ sym (append_assoc (flat_map (line_of n) c) (cue_texts (suc n) (d ∷ cs)) (line_of m e))

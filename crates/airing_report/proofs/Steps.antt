@@ -1,37 +1,14 @@
--- Reading one line more, as the code does.
-use Rattle.std.proofs.Common.{◌≡◌, ℕ, ◌+◌, ◌≤◌, List, [], ◌∷◌, ◌++◌, map, length, Ok, Err, Result, sym, refl, ap, ◌∙◌, arith}
-use Rattle.std.proofs.lemmas.List.{length-map, map-append, append_assoc}
+-- What the code read is what the input says, and how long its text is.
+use Rattle.std.proofs.Common.{◌≡◌, ℕ, ◌+◌, ◌≤◌, List, [], ◌∷◌, ◌++◌, map, length, Ok, Err, Result, sym, ap, ◌∙◌, arith}
+use Rattle.std.proofs.lemmas.List.{length-map}
 use Rattle.events.specs.declared.Refusal.{Refusal}
+use Rattle.std.specs.Borrow.{Bor}
+use Rattle.cue_lines.specs.Reading.{rest_of}
 use Rattle.columns.specs.AsRuns.{Values, values_of}
 use Rattle.columns.specs.Lines.{in_front, lines_of}
 use Rattle.columns.specs.declared.asrun.AsRun.{AsRun}
-use Rattle.script.specs.Listed.{behind_last}
 use Rattle.script.specs.Report.{Contents}
-use Rattle.airing_report.specs.Reading.{Step, more, next, parts, refused, Rest, contents_from, read_airings, step_of, grown, read_step, read_cues, logged, text_of, end_of, text_from, end_from}
-
--- the cues with one event more, told by other values
-pub map_behind : {E F : Type 0} (f : E → F) (cues : List (List E)) (e : E) → map (map f) (behind_last cues e) ≡ behind_last (map (map f) cues) (f e)
-map_behind f [] e = refl
-map_behind f (c ∷ []) e = ap (λ d. d ∷ []) (map-append f c (e ∷ []))
-map_behind f (c ∷ (d ∷ cs)) e = ap (λ ds. map f c ∷ ds) (map_behind f (d ∷ cs) e)
-
-pub map_begun : {E F : Type 0} (f : E → F) (cues : List (List E)) (e : E) → map (map f) (cues ++ (e ∷ []) ∷ []) ≡ map (map f) cues ++ (f e ∷ []) ∷ []
-map_begun f cues e = map-append (map f) cues ((e ∷ []) ∷ [])
-
--- one line in front of the log
-pub read_line_lem : (cues : List (List Values)) (n : ℕ) (ls after : List (List ℕ)) (line : List ℕ) (s : Step) →
-    ls ≡ line ∷ after → n ≡ length cues → s ≡ step_of n line → read_cues cues ls ≡ read_step s cues after (read_cues (grown s cues) after)
-read_line_lem cues n ls after line s split count step =
-    let is : step_of (length cues) line ≡ s = ap (λ m. step_of m line) (sym count) ∙ sym step in
-    ap (read_cues cues) split ∙ ap (λ x. read_step x cues after (read_cues (grown x cues) after)) is
-
--- a log line with an event, behind those read before
-pub log_on : (old now : List Values) (e : Values) (ls after : List (List ℕ)) (line : List ℕ) →
-    ls ≡ line ∷ after → Ok e ≡ logged line → now ≡ old ++ e ∷ [] → (now ++ text_of after ≡ old ++ text_of ls) × (end_of after ≡ end_of ls)
-log_on old now e ls after line split event grew =
-    let text : text_of ls ≡ e ∷ text_of after = ap text_of split ∙ ap (λ r. text_from r (text_of after)) (sym event) in
-    let end : end_of ls ≡ end_of after = ap end_of split ∙ ap (λ r. end_from r (end_of after)) (sym event) in
-    (ap (λ xs. xs ++ text_of after) grew ∙ (append_assoc old (e ∷ []) (text_of after) ∙ ap (λ xs. old ++ xs) (sym text)), sym end)
+use Rattle.airing_report.specs.Reading.{Step, more, next, parts, refused, Rest, contents_from, read_airings, step_of, grown, read_step, read_cues, logged, text_of, text_from}
 
 -- there are no more lines than bytes, and no more events than lines
 front_le : (b : ℕ) (ls : List (List ℕ)) → length (in_front b ls) ≤ length ls + 1
@@ -64,11 +41,11 @@ behind_le cues cs (l ∷ ls) =
     omega (arith, step_le s cues cs ls (read_cues (grown s cues) ls) (behind_le (grown s cues) cs ls))
 
 -- what is read is what the input says
-pub said_is : (xs : List ℕ) (begun cues : List (List Values)) (rest rest' : Rest) → begun ≡ [] → rest ≡ rest' →
-    ◌≡◌ {A = List (List Values) × Rest} (cues, rest) (read_cues begun (lines_of xs)) → contents_from cues rest' ≡ read_airings xs
+pub said_is : (xs : List ℕ) (begun : List (List AsRun)) (cues : List (List Values)) (behind is : Result (Bor (List ℕ)) Refusal) → begun ≡ [] → behind ≡ is →
+    ◌≡◌ {A = List (List Values) × Rest} (cues, rest_of behind) (read_cues (map (map values_of) begun) (lines_of xs)) → contents_from cues (rest_of is) ≡ read_airings xs
 unfolding read_airings
-said_is xs begun cues rest rest' none is h =
-    ap (contents_from cues) (sym is) ∙ ap (λ p. contents_from p.0 p.1) (h ∙ ap (λ b. read_cues b (lines_of xs)) none)
+said_is xs begun cues behind is none same h =
+    ap (λ b. contents_from cues (rest_of b)) (sym same) ∙ ap (λ p. contents_from p.0 p.1) (h ∙ ap (λ b. read_cues (map (map values_of) b) (lines_of xs)) none)
 
 -- events behind none are all
 pub first_text : (old now : List AsRun) (text : List Values) → old ≡ [] → map values_of now ≡ map values_of old ++ text → map values_of now ≡ text

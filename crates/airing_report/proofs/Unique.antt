@@ -16,7 +16,7 @@ use Rattle.columns.specs.AsRuns.{Values}
 use Rattle.airing_report.specs.Reading.{Step, more, next, parts, refused, Rest, lines_left, stopped, numbered, step_from, step_of, grown, read_step, read_cues, logged, logged_from, text_of, text_from, end_of, end_from, contents_from, read_airings}
 use Rattle.airing_report.proofs.Growth.{SaidCue, line_of, behind_push}
 use Rattle.airing_report.proofs.Said.{step_cue, step_parting, log_text_lem}
-use Rattle.airing_report.proofs.Steps.{read_line_lem}
+use Rattle.cue_lines.proofs.Steps.{read_line_lem}
 
 -- One cue line.
 read_one : (cues : List (List Values)) (m : ℕ) (e : Values) (rest : List ℕ) (s : Step) → m < cue_numbers → CueEvent e →

@@ -4,6 +4,5 @@
 
 mod airings;
 mod reading;
-mod row;
 
 pub use airings::airings_report;

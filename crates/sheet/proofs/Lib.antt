@@ -1,3 +1,3 @@
-mod Answered
-mod Starts
+mod Listed
+mod Reading
 mod Values

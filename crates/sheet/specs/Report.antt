@@ -1,5 +1,5 @@
 -- What the program writes of a cue sheet.
-use Rattle.std.specs.Prelude.{ℕ, ◌+◌, Bool, cond, ◌&&◌, List, [], ◌∷◌, ◌++◌, length, Some, None, Option, ◌==◌, nat_lt}
+use Rattle.std.specs.Prelude.{ℕ, ◌+◌, Bool, cond, List, [], ◌∷◌, ◌++◌, length, Some, None, Option, nat_lt}
 use Rattle.events.specs.Refused.{number_of}
 use Rattle.events.specs.declared.Refusal.{Refusal}
 use Rattle.events.specs.declared.Refusal.TheVariants.{LongInput}
@@ -7,11 +7,9 @@ use Rattle.book.specs.Held.{Held, add_refused, begun, with_cue}
 use Rattle.book.specs.declared.cue.Cue.{Cue}
 use Rattle.columns.specs.Lines.{lines_of}
 use Rattle.columns.specs.Written.{entry_line, total_line, refusal_line}
-use Rattle.sheet.specs.Rows.{Values, Sheet, read_sheet, cues_from}
-
+use Rattle.sheet.specs.Rows.{Sheet, read_sheet, cues_from}
 -- Two events are the same where kind letter and cart are equal.
-abbrev pub same_values : Values → Values → Bool
-same_values x y = x.1 == y.1 && x.2 == y.2
+pub use Rattle.columns.specs.AsRuns.{same_values}
 
 -- The last line: the totals of the sealed book, or why the line behind the cue lines is refused.
 abbrev pub last_line : {E : Type 0} → Held E → ℕ → Option Refusal → List ℕ

@@ -1,27 +1,18 @@
 -- The rows of a cue sheet: its lines up to the parting line, as events of numbered cues.
-use Rattle.std.specs.Prelude.{ℕ, suc, ◌-◌, Bool, true, false, cond, List, [], ◌∷◌, ◌++◌, map, length, Some, None, Ok, Err, vec_items, Option, Result, ◌==◌}
+use Rattle.std.specs.Prelude.{ℕ, suc, ◌+◌, ◌-◌, Bool, true, false, cond, List, [], ◌∷◌, ◌++◌, length, Some, None, Ok, Err, Option, Result, ◌==◌}
+use Rattle.std.specs.List.{flat_map}
+use Rattle.std.specs.Result.{result_err}
 use Rattle.events.specs.declared.Refusal.{Refusal}
 use Rattle.events.specs.declared.Refusal.TheVariants.{Unreadable, Misnumbered}
 use Rattle.book.specs.Cues.{cue_at}
 use Rattle.book.specs.declared.cue.Cue.{Cue}
-use Rattle.columns.specs.AsRuns.{values_of}
 use Rattle.columns.specs.Lines.{Fields, cue, log, parting, read_line, event_of, cue_number_of}
 use Rattle.columns.specs.declared.line.Section.TheVariants.{Cues}
-use Rattle.sheet.specs.declared.row.Row.{Row}
-use Rattle.sheet.specs.declared.row.Row.TheVariants.{More, Next, Parting, Refused}
-use Rattle.sheet.specs.declared.rows.Rows.{Rows}
-
 -- An event by its second, kind letter and cart.
-abbrev pub Values : Type 0
-Values = ℕ × ℕ × ℕ
-
+pub use Rattle.columns.specs.AsRuns.{Values}
 -- What a line of the sheet is, where so many cues have begun before it: an event of the last of these
 -- cues or of the next one, the parting line, or refused.
-pub data Kind : Type 0 where
-  more : Values → Kind
-  next : Values → Kind
-  parts : Kind
-  refused : Refusal → Kind
+pub use Rattle.cue_lines.specs.Reading.{Step as Kind, more, next, parts, refused}
 
 -- A cue line's number is the last cue's or one more; the first is 0.
 abbrev pub numbered : ℕ → Option ℕ → Option Values → Kind
@@ -37,13 +28,6 @@ kind_from cues (Err refusal) = refused refusal
 
 abbrev pub kind_of : ℕ → List ℕ → Kind
 kind_of cues line = kind_from cues (read_line Cues line)
-
--- What a `Row` says.
-abbrev pub kind_of_row : Row → Kind
-kind_of_row (More e) = more (values_of e)
-kind_of_row (Next e) = next (values_of e)
-kind_of_row Parting = parts
-kind_of_row (Refused refusal) = refused refusal
 
 -- A sheet as far as it was read: the events of its cue lines, the place at which each cue begins among
 -- them, and why the line behind them is refused; none at the parting line.
@@ -95,6 +79,11 @@ cues_from [] n = []
 cues_from (s ∷ []) n = cue_at s (n - s) ∷ []
 cues_from (s ∷ (t ∷ ss)) n = cue_at s (t - s) ∷ cues_from (t ∷ ss) n
 
--- What `Rows` holds.
-abbrev pub sheet_of : Rows → Sheet
-sheet_of r = record { events = map values_of (vec_items r.events); starts = vec_items r.starts; stop = r.stop }
+-- Where cues begin, each behind the one before, from a place on.
+abbrev pub starts_from : ℕ → List (List Values) → List ℕ
+starts_from place [] = []
+starts_from place (c ∷ cues) = place ∷ starts_from (place + length c) cues
+
+-- The sheet of these cues, with how their lines end.
+abbrev pub sheet_of : {A : Type 0} → List (List Values) → Result A Refusal → Sheet
+sheet_of cues end = record { events = flat_map (λ c. c) cues; starts = starts_from 0 cues; stop = result_err end }

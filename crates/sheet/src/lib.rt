@@ -3,9 +3,6 @@
 #![tactic(auto)]
 
 mod listing;
-mod reading;
 mod report;
-mod row;
-mod rows;
 
 pub use report::sheet_report;

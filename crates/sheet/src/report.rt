@@ -1,60 +1,65 @@
 // The report of a cue sheet: the cues that were added and the totals, or the refusal.
 
-ghost use Rattle.std.specs.Prelude.{◌≡◌, ◌^◌, ◌<◌, ◌++◌, IfOk, OnOk};
+ghost use Rattle.std.specs.Prelude.{◌≡◌, ◌++◌, length, IfOk, MatchResult, OnOk, Ok, Err};
+ghost use Rattle.std.specs.Result.{result_err};
 ghost use Rattle.book.specs.Held.{draft_held};
-ghost use Rattle.sheet.specs.Report.{last_line, sheet_listing, sheet_report};
+ghost use Rattle.columns.specs.Written.{total_line};
+ghost use Rattle.cue_lines.specs.Reading.{values_in};
+ghost use Rattle.script.specs.Report.{refused_or};
+ghost use Rattle.sheet.specs.Report.{sheet_listing, sheet_report};
 ghost use Rattle.sheet.specs.Rows.{sheet_of};
 
 use crate::listing::list_cues;
-use crate::reading::read_rows;
-use crate::rows::Rows;
 use book::Draft;
 use columns::{AsRun, refusal_line, total_line};
+use cue_lines::{is_long, read_cues, refuse_long};
 use events::Refusal;
+use script::Cues;
 use std::alloc::{AllocError, Global};
 
-const INPUT: usize = 32_768;
-
-// Writes the totals of the book, or why the line behind so many cue lines is refused.
+// Writes the totals of the book, or why a line is refused.
 fn write_last(
     out: &mut Vec<u8>,
     draft: Draft<AsRun>,
-    lines: usize,
-    stop: Option<Refusal>,
+    end: Result<(), (Refusal, usize)>,
 ) -> Result<(), AllocError>
-    requires { lines < 2 ^ 63 }
-    ensures { OnOk result (out.new.items ≡ out.old.items ++ last_line (draft_held draft) lines stop) }
+    ensures { OnOk result (out.new.items ≡ out.old.items ++ refused_or (result_err end) (total_line (length (draft_held draft).material) (length (draft_held draft).cues))) }
 {
-    match stop {
-        None => {
+    match end {
+        Ok(()) => {
             let book = draft.seal();
             let line = total_line(book.material().len() as u64, book.cues().len() as u64);
             out.extend_from_slice(&line)?;
         }
-        Some(refusal) => {
-            let line = refusal_line(refusal.number() as u64, lines as u64 + 1);
+        Err((refusal, line)) => {
+            let line = refusal_line(u64::from(refusal.number()), line as u64);
             out.extend_from_slice(&line)?;
         }
     }
     Ok(())
 }
 
-// The report of a sheet that was read.
-fn list_rows(heap: Global, rows: Rows) -> Result<Vec<u8>, AllocError>
-    ensures { IfOk result (λ v. v.items ≡ sheet_listing (sheet_of rows)) }
+// How cue lines end, a refusal with the number of its line.
+fn end_at(end: Result<(), Refusal>, line: usize) -> Result<(), (Refusal, usize)>
+    ensures { MatchResult end (λ x. result ≡ Ok x) (λ refusal. result ≡ Err (refusal, line)) }
 {
-    let Rows {
-        events,
-        starts,
-        stop,
-    } = rows;
+    end.map_err(|refusal| (refusal, line))
+}
+
+// The report of these cues, where their lines end with the parting line or a line that is refused.
+fn list_sheet(
+    heap: Global,
+    cues: Cues<AsRun>,
+    end: Result<(), Refusal>,
+) -> Result<Vec<u8>, AllocError>
+    ensures { IfOk result (λ v. v.items ≡ sheet_listing (sheet_of (values_in cues) end)) }
+{
+    let (events, lens) = cues.into_parts();
     let lines = events.len();
     let mut draft = Draft::begin(heap, events)?;
     let mut out = Vec::new(heap);
-    let all = list_cues(&mut out, &mut draft, starts.as_slice(), lines)?;
-    if all {
-        write_last(&mut out, draft, lines, stop)?;
-    }
+    let added = list_cues(&mut out, &mut draft, lens.as_slice())?;
+    write_last(&mut out, draft, added.and(end_at(end, lines + 1)))?;
     Ok(out)
 }
 
@@ -62,12 +67,10 @@ fn list_rows(heap: Global, rows: Rows) -> Result<Vec<u8>, AllocError>
 pub fn sheet_report(heap: Global, input: &[u8]) -> Result<Vec<u8>, AllocError>
     ensures { IfOk result (λ v. v.items ≡ sheet_report input.now) }
 {
-    if input.len() > INPUT {
-        let line = refusal_line(Refusal::LongInput.number() as u64, 0);
-        let out = Vec::from_slice(heap, &line)?;
-        return Ok(out);
+    if is_long(input) {
+        return refuse_long(heap);
     }
-    let rows = read_rows(heap, input)?;
-    let out = list_rows(heap, rows)?;
-    Ok(out)
+    let mut cues = Cues::new(heap);
+    let behind = read_cues(&mut cues, input)?;
+    list_sheet(heap, cues, behind.and(Ok(())))
 }

@@ -1,7 +1,6 @@
-// One line of a cue sheet.
+// A cue line, or the parting line behind the cue lines.
 
 use columns::AsRun;
-use events::Refusal;
 
 pub(crate) enum Row {
     // an event of the last cue
@@ -10,6 +9,4 @@ pub(crate) enum Row {
     Next(AsRun),
     // the parting line
     Parting,
-    // a line that is refused
-    Refused(Refusal),
 }
