@@ -30,8 +30,5 @@ lawful =
       transitive = λ x y z p q. small_same x z (same_small x y p ∙ same_small y z q);
     }
 
-pub read_out : (xs out : List ℕ) (s : Contents ℕ) → length xs ≤ longest_input → s ≡ read_notes xs → out ≡ report_of same_bytes PerCue s → out ≡ notes_report xs
-read_out xs out s h says e = e ∙ (ap (report_of same_bytes PerCue) says ∙ sym (short_report same_bytes PerCue read_notes Reads xs h))
-
 pub notes_once : (xs : List ℕ) → NotesOnce xs
 notes_once xs = answered_once same_bytes PerCue read_notes Reads xs lawful (reads_once xs)

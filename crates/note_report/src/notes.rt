@@ -9,12 +9,6 @@ use report::report_input;
 use script::Layout;
 use std::alloc::{AllocError, Global};
 
-fn write_report(heap: Global, input: &[u8]) -> Result<Vec<u8>, AllocError>
-    ensures { IfOk result (λ v. v.items ≡ notes_report input.now) }
-{
-    report_input(heap, input, Layout::PerCue, read_notes)
-}
-
 // All that is written for an input of words, a line for each, a parting line and a text: a line for each
 // place where a word ends, then the totals, or in their place the refusal with its line.
 pub fn notes_report(heap: Global, input: &[u8]) -> Result<Vec<u8>, AllocError>
@@ -22,5 +16,5 @@ pub fn notes_report(heap: Global, input: &[u8]) -> Result<Vec<u8>, AllocError>
     ensures says { ReadsOnce input.now }
     ensures once { NotesOnce input.now }
 {
-    write_report(heap, input)
+    report_input(heap, input, Layout::PerCue, read_notes)
 }

@@ -23,11 +23,13 @@ fn ended_line(input: &[u8]) -> Option<(&[u8], &[u8])>
     Some((bytes, behind))
 }
 
-// Adds a cue of this byte and the others.
-fn add_cue(cues: &mut Cues<u8>, first: u8, others: &[u8]) -> Result<(), AllocError>
-    ensures { OnOk result (cues_of cues.new ≡ cues_of cues.old ++ (first ∷ others.now) ∷ []) }
+// Adds a cue of these bytes.
+fn add_cue(cues: &mut Cues<u8>, bytes: &[u8]) -> Result<(), AllocError>
+    requires { 0 < length bytes.now }
+    ensures { OnOk result (cues_of cues.new ≡ cues_of cues.old ++ bytes.now ∷ []) }
 {
-    cues.begin(first)?;
+    let (first, others) = bytes.split_first().unwrap();
+    cues.begin(*first)?;
     for b in others {
         cues.extend(*b)?;
     }
@@ -67,10 +69,10 @@ pub(crate) fn read_notes(heap: Global, input: &[u8]) -> Result<Script<u8>, Alloc
     let mut cues = Cues::new(heap);
     let mut rest = input;
     while let Some((cue, behind)) = ended_line(rest) {
-        let Some((first, others)) = cue.split_first() else {
+        if cue.is_empty() {
             return with_text(heap, cues, behind);
-        };
-        add_cue(&mut cues, *first, others)?;
+        }
+        add_cue(&mut cues, cue)?;
         rest = behind;
     }
     Ok(without_text(heap, cues))
