@@ -1,14 +1,12 @@
 -- From what is read to what is written.
-use Rattle.std.proofs.Common.{◌≡◌, ℕ, ◌+◌, ◌≤◌, true, cond, List, length, sym, ap, ◌∙◌, arith}
+use Rattle.std.proofs.Common.{◌≡◌, ℕ, ◌+◌, true, cond, List, ◌∙◌, arith}
 use Rattle.events.specs.Sameness.{Lawful, capital, same_bytes}
-use Rattle.script.proofs.Answering.{answered_once, short_report}
-use Rattle.script.specs.Answered.{longest_input}
-use Rattle.script.specs.Report.{Contents, report_of}
+use Rattle.script.proofs.Answering.{answered_once}
 use Rattle.script.specs.declared.contents.Layout.TheVariants.{PerCue}
 use Rattle.note_report.proofs.Once.{reads_once}
 use Rattle.note_report.specs.Inputs.{Reads}
 use Rattle.note_report.specs.Reading.{read_notes}
-use Rattle.note_report.specs.Reported.{notes_report, NotesOnce}
+use Rattle.note_report.specs.Reported.{NotesOnce}
 
 -- A letter as its small letter; bytes are the same where these are equal.
 small : ℕ → ℕ
