@@ -1,10 +1,10 @@
 -- From what is read to what is written.
-use Rattle.std.proofs.Common.{◌≡◌, ℕ, ◌≤◌, true, ltb, List, [], ◌∷◌, ◌++◌, length, Some, None, sym, refl, ap, ◌∙◌, append-nil, arith, length-append}
-use Rattle.std.proofs.lemmas.Bool.{cond-true}
+use Rattle.std.proofs.Common.{◌≡◌, ℕ, ◌<◌, ◌≤◌, List, [], ◌∷◌, ◌++◌, length, Some, None, sym, refl, ap, ◌∙◌, append-nil, IfOk, Result, arith, length-append}
+use Rattle.std.proofs.lemmas.Bool.{cond-true, cond-false}
 use Rattle.events.specs.Sameness.{Lawful}
 use Rattle.columns.specs.AsRuns.{same_as_run, same_values, values_of}
 use Rattle.columns.specs.declared.asrun.AsRun.{AsRun}
-use Rattle.script.proofs.Answering.{answered_once, short_report}
+use Rattle.script.proofs.Answering.{answered_once}
 use Rattle.script.proofs.Listing.{runs_lists}
 use Rattle.script.proofs.Mapped.{report_map}
 use Rattle.script.specs.Answered.{longest_input, reported, too_long_report}
@@ -20,12 +20,15 @@ use Rattle.airing_report.specs.Reported.{airings_report, AiringsOnce, Shorter}
 lawful : Lawful same_values
 lawful = record { reflexive = λ x. grind arith; symmetric = λ x y. grind arith; transitive = λ x y z p q. grind arith }
 
-pub long_out : (xs out : List ℕ) → ltb longest_input (length xs) ≡ true → out ≡ too_long_report → out ≡ airings_report xs
-long_out xs out h e = e ∙ sym (cond-true (ltb longest_input (length xs)) too_long_report (report_of same_values PerEvent (read_airings xs)) h)
+-- What is answered for a long input and for a short one is the report of each input.
+pub airings_out : {V X : Type 0} (r : Result V X) (items : V → List ℕ) (xs : List ℕ) →
+    (longest_input < length xs → IfOk r (λ v. items v ≡ too_long_report)) → (length xs ≤ longest_input → IfOk r (λ v. items v ≡ report_of same_values PerEvent (read_airings xs))) →
+    IfOk r (λ v. items v ≡ airings_report xs)
+airings_out r items xs long short = grind (arith, cond-true, cond-false)
 
-pub read_out : (xs out : List ℕ) (s : Contents AsRun) → length xs ≤ longest_input → map_contents values_of s ≡ read_airings xs → out ≡ report_of same_as_run PerEvent s → out ≡ airings_report xs
-read_out xs out s h says e =
-    e ∙ (sym (report_map same_as_run same_values values_of (λ x y. refl) PerEvent s) ∙ (ap (report_of same_values PerEvent) says ∙ sym (short_report same_values PerEvent read_airings Reads xs h)))
+-- The same report, over the events as the code has them.
+pub said_report : (xs : List ℕ) (s : Contents AsRun) → map_contents values_of s ≡ read_airings xs → report_of same_as_run PerEvent s ≡ report_of same_values PerEvent (read_airings xs)
+said_report xs s says = sym (report_map same_as_run same_values values_of (λ x y. refl) PerEvent s) ∙ ap (report_of same_values PerEvent) says
 
 pub airings_once : (xs : List ℕ) → AiringsOnce xs
 airings_once xs = answered_once same_values PerEvent read_airings Reads xs lawful (reads_once xs)

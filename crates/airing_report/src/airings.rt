@@ -5,21 +5,9 @@ ghost use Rattle.airing_report.specs.Inputs.{ReadsOnce};
 ghost use Rattle.airing_report.specs.Reported.{airings_report, AiringsOnce, Shorter};
 
 use crate::reading::read_airings;
-use report::{is_long, refuse_long, report};
+use report::report_input;
 use script::Layout;
 use std::alloc::{AllocError, Global};
-
-fn write_report(heap: Global, input: &[u8]) -> Result<Vec<u8>, AllocError>
-    ensures { IfOk result (λ v. v.items ≡ airings_report input.now) }
-{
-    if is_long(input) {
-        let out = refuse_long(heap)?;
-        return Ok(out);
-    }
-    let script = read_airings(heap, input)?;
-    let out = report(heap, Layout::PerEvent, script)?;
-    Ok(out)
-}
 
 // All that is written for an input of cue lines, a parting line and log lines: a line for each run of a
 // cue, then the totals, or in their place the refusal with its line.
@@ -29,5 +17,5 @@ pub fn airings_report(heap: Global, input: &[u8]) -> Result<Vec<u8>, AllocError>
     ensures once { AiringsOnce input.now }
     ensures shorter { Shorter input.now }
 {
-    write_report(heap, input)
+    report_input(heap, input, Layout::PerEvent, read_airings)
 }

@@ -1,14 +1,12 @@
 -- From what is read to what is written.
-use Rattle.std.proofs.Common.{◌≡◌, ℕ, ◌+◌, ◌≤◌, true, cond, List, length, sym, ap, ◌∙◌, arith}
+use Rattle.std.proofs.Common.{◌≡◌, ℕ, ◌+◌, true, cond, List, ◌∙◌, arith}
 use Rattle.events.specs.Sameness.{Lawful, capital, same_bytes}
-use Rattle.script.proofs.Answering.{answered_once, short_report}
-use Rattle.script.specs.Answered.{longest_input}
-use Rattle.script.specs.Report.{Contents, report_of}
+use Rattle.script.proofs.Answering.{answered_once}
 use Rattle.script.specs.declared.contents.Layout.TheVariants.{PerCue}
 use Rattle.note_report.proofs.Once.{reads_once}
 use Rattle.note_report.specs.Inputs.{Reads}
 use Rattle.note_report.specs.Reading.{read_notes}
-use Rattle.note_report.specs.Reported.{notes_report, NotesOnce}
+use Rattle.note_report.specs.Reported.{NotesOnce}
 
 -- A letter as its small letter; bytes are the same where these are equal.
 small : ℕ → ℕ
@@ -29,9 +27,6 @@ lawful =
       symmetric = λ x y. grind arith;
       transitive = λ x y z p q. small_same x z (same_small x y p ∙ same_small y z q);
     }
-
-pub read_out : (xs out : List ℕ) (s : Contents ℕ) → length xs ≤ longest_input → s ≡ read_notes xs → out ≡ report_of same_bytes PerCue s → out ≡ notes_report xs
-read_out xs out s h says e = e ∙ (ap (report_of same_bytes PerCue) says ∙ sym (short_report same_bytes PerCue read_notes Reads xs h))
 
 pub notes_once : (xs : List ℕ) → NotesOnce xs
 notes_once xs = answered_once same_bytes PerCue read_notes Reads xs lawful (reads_once xs)

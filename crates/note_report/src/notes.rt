@@ -5,21 +5,9 @@ ghost use Rattle.note_report.specs.Inputs.{ReadsOnce};
 ghost use Rattle.note_report.specs.Reported.{notes_report, NotesOnce};
 
 use crate::reading::read_notes;
-use report::{is_long, refuse_long, report};
+use report::report_input;
 use script::Layout;
 use std::alloc::{AllocError, Global};
-
-fn write_report(heap: Global, input: &[u8]) -> Result<Vec<u8>, AllocError>
-    ensures { IfOk result (λ v. v.items ≡ notes_report input.now) }
-{
-    if is_long(input) {
-        let out = refuse_long(heap)?;
-        return Ok(out);
-    }
-    let script = read_notes(heap, input)?;
-    let out = report(heap, Layout::PerCue, script)?;
-    Ok(out)
-}
 
 // All that is written for an input of words, a line for each, a parting line and a text: a line for each
 // place where a word ends, then the totals, or in their place the refusal with its line.
@@ -28,5 +16,5 @@ pub fn notes_report(heap: Global, input: &[u8]) -> Result<Vec<u8>, AllocError>
     ensures says { ReadsOnce input.now }
     ensures once { NotesOnce input.now }
 {
-    write_report(heap, input)
+    report_input(heap, input, Layout::PerCue, read_notes)
 }

@@ -16,9 +16,7 @@ fn ended_line(input: &[u8]) -> Option<(&[u8], &[u8])>
     ensures { MatchOption result (Unbroken input.now) (λ p. (input.now ≡ p.0.now ++ (10 ∷ p.1.now)) × Unbroken p.0.now) }
 {
     let (line, behind) = split_line(input);
-    let Some((last, bytes)) = line.split_last() else {
-        return None;
-    };
+    let (last, bytes) = line.split_last()?;
     if *last != b'\n' {
         return None;
     }
@@ -30,8 +28,9 @@ fn add_cue(cues: &mut Cues<u8>, bytes: &[u8]) -> Result<(), AllocError>
     requires { 0 < length bytes.now }
     ensures { OnOk result (cues_of cues.new ≡ cues_of cues.old ++ bytes.now ∷ []) }
 {
-    cues.begin(bytes[0])?;
-    for b in &bytes[1..] {
+    let (first, others) = bytes.split_first().unwrap();
+    cues.begin(*first)?;
+    for b in others {
         cues.extend(*b)?;
     }
     Ok(())
@@ -42,11 +41,10 @@ fn with_text(heap: Global, cues: Cues<u8>, text: &[u8]) -> Result<Script<u8>, Al
     requires { length text.now ≤ 9999999 }
     ensures { IfOk result (λ s. contents_of s ≡ with_text (cues_of cues) text.now) }
 {
-    let text = Vec::from_slice(heap, text)?;
     Ok(Script {
         cues,
         stop: None,
-        text,
+        text: Vec::from_slice(heap, text)?,
         end: None,
     })
 }
@@ -72,8 +70,7 @@ pub(crate) fn read_notes(heap: Global, input: &[u8]) -> Result<Script<u8>, Alloc
     let mut rest = input;
     while let Some((cue, behind)) = ended_line(rest) {
         if cue.is_empty() {
-            let script = with_text(heap, cues, behind)?;
-            return Ok(script);
+            return with_text(heap, cues, behind);
         }
         add_cue(&mut cues, cue)?;
         rest = behind;

@@ -31,19 +31,18 @@ module _ {E : Type 0} (same : E → E → Bool) (layout : Layout) (s : Contents 
   front : (r : Option (Refusal × ℕ)) (h : Held E) → Books same layout s.cues r h → front_refused same layout s ≡ found r (or_later s.stop (line_count layout s.cues + 1) None)
   front r h b = sym (b.value (or_later s.stop (line_count layout s.cues + 1) None))
 
-  pub cue_out : (r : Option (Refusal × ℕ)) (refusal : Refusal) (line : ℕ) (h : Held E) (old out : List ℕ) → Books same layout s.cues r h → r ≡ Some (refusal, line) → old ≡ [] → out ≡ old ++ refusal_line (number_of refusal) line → out ≡ report_of same layout s
+  pub cue_is : (r : Option (Refusal × ℕ)) (refusal : Refusal) (line : ℕ) (h : Held E) → Books same layout s.cues r h → r ≡ Some (refusal, line) → refusal_line (number_of refusal) line ≡ report_of same layout s
   unfolding report_of
-  cue_out r refusal line h old out b e none wrote =
+  cue_is r refusal line h b e =
       let f : front_refused same layout s ≡ Some (refusal, line) = front r h b ∙ ap (λ x. found x (or_later s.stop (line_count layout s.cues + 1) None)) e in
-      wrote ∙ (ap (λ o. o ++ refusal_line (number_of refusal) line) none ∙ ap (λ q. refused_or q (text_report same layout s)) (sym f))
+      ap (λ q. refused_or q (text_report same layout s)) (sym f)
 
-  pub stop_out : (r : Option (Refusal × ℕ)) (refusal : Refusal) (line : ℕ) (h : Held E) (old out : List ℕ) → Books same layout s.cues r h → r ≡ None → s.stop ≡ Some refusal → line ≡ line_count layout s.cues →
-      old ≡ [] → out ≡ old ++ refusal_line (number_of refusal) (line + 1) → out ≡ report_of same layout s
+  pub stop_is : (r : Option (Refusal × ℕ)) (refusal : Refusal) (line : ℕ) (h : Held E) → Books same layout s.cues r h → r ≡ None → s.stop ≡ Some refusal → line ≡ line_count layout s.cues → refusal_line (number_of refusal) (line + 1) ≡ report_of same layout s
   unfolding report_of
-  stop_out r refusal line h old out b e stop at none wrote =
+  stop_is r refusal line h b e stop at =
       let f : front_refused same layout s ≡ Some (refusal, line_count layout s.cues + 1) =
       front r h b ∙ (ap (λ x. found x (or_later s.stop (line_count layout s.cues + 1) None)) e ∙ ap (λ o. or_later o (line_count layout s.cues + 1) None) stop) in
-      wrote ∙ (ap (λ o. o ++ refusal_line (number_of refusal) (line + 1)) none ∙ (ap (λ n. refusal_line (number_of refusal) (n + 1)) at ∙ ap (λ q. refused_or q (text_report same layout s)) (sym f)))
+      ap (λ n. refusal_line (number_of refusal) (n + 1)) at ∙ ap (λ q. refused_or q (text_report same layout s)) (sym f)
 
   pub text_out : Lawful same → (r : Option (Refusal × ℕ)) (h b : Held E) (old mid out : List ℕ) (line events count : ℕ) → Books same layout s.cues r h → r ≡ None → s.stop ≡ None → b ≡ h → total b.cues ≤ 1024 →
       line ≡ line_count layout s.cues → events ≡ length s.text → old ≡ [] → Wrote (cue_signs b) (lookups same b s.text) old mid count → out ≡ mid ++ last_line s.end (line + events + 2) events count → out ≡ report_of same layout s

@@ -1,6 +1,6 @@
 -- Following in rounds: a watch on its way through the signs of a text.
-use Rattle.std.proofs.Common.{◌≡◌, ℕ, ◌+◌, ◌*◌, ◌<◌, ◌≤◌, Bool, List, [], ◌∷◌, ◌++◌, map, length, take, drop, sym, refl, ap, ◌∙◌, subst, append_assoc, append-nil, arith}
-use Rattle.std.proofs.lemmas.List.{drop-map, length-append, length-map, take_at}
+use Rattle.std.proofs.Common.{◌≡◌, ℕ, ◌+◌, ◌-◌, ◌*◌, ◌<◌, ◌≤◌, Bool, List, [], ◌∷◌, ◌++◌, map, length, take, drop, sym, refl, ap, ◌∙◌, subst, append_assoc, append-nil, arith}
+use Rattle.std.proofs.lemmas.List.{drop-drop, drop-map, length-append, length-drop, length-map, take_all, take_at}
 use Rattle.std.specs.List.{flat_map}
 use Rattle.book.specs.Held.{Held, lookup, lookups}
 use Rattle.book.specs.declared.entry.Entry.{Entry}
@@ -17,7 +17,7 @@ use Rattle.watch.specs.Following.{FollowAnswer, entry_of}
 use Rattle.watch.specs.declared.following.Followed.{Followed}
 use Rattle.watch.specs.declared.watch.Watch.{Watch}
 use Rattle.report.proofs.Lines.{entry_lines_append, lines_of_entries}
-use Rattle.report.specs.Reached.{Reached, entry_text}
+use Rattle.report.specs.Reached.{Reached, Wrote, entry_text}
 
 -- So many signs are taken, and a line is written for each sighting of them.
 pub record Going {L : Type 0} (m : Ghosts L) (w : Watch L) (cues : List (List ℕ)) (ss : List ℕ) (taken : ℕ) (old out : List ℕ) (count : ℕ) : Type 0 where
@@ -103,13 +103,53 @@ module _ {L : Type 0} (m : Ghosts L) (cues : List (List ℕ)) (ss : List ℕ) wh
             });
       }
 
--- The same over the events whose signs these are.
-pub turn_of : {L E : Type 0} (m : Ghosts L) (same : E → E → Bool) (h : Held E) (cues : List (List ℕ)) (events rest : List E) (v w : Watch L) (taken : ℕ) (old out : List ℕ) (count : ℕ) (before new : List Entry) (r : Followed) →
-    Going m v cues (lookups same h events) taken old out count → taken < length events → length events ≤ 9999999 → 32 ≤ length before → length new ≡ length before → rest ≡ drop taken events →
-    Always m v (λ a. FollowAnswer a (lookups same h rest) before new r) → Leads m v (follows (lookups same h rest) (length before)) w →
-    Turn m w cues (lookups same h events) taken old out count new r
-turn_of m same h cues events rest v w taken old out count before new r go lt short room kept part answer leads =
-    let n = length-map events (lookup same h) in
-    let e : lookups same h rest ≡ drop taken (lookups same h events) = ap (lookups same h) part ∙ sym (drop-map (lookup same h) taken events) in
-    turn m cues (lookups same h events) v w taken old out count before new r go (omega arith) (omega arith) room kept
-    (subst (λ ss. Always m v (λ a. FollowAnswer a ss before new r)) e answer) (subst (λ ss. Leads m v (follows ss (length before)) w) e leads)
+-- The same over the events whose signs these are, by those that are left.
+pub record Underway {L E : Type 0} (m : Ghosts L) (same : E → E → Bool) (h : Held E) (cues : List (List ℕ)) (events : List E) (old : List ℕ) (w : Watch L) (rest : List E) (out : List ℕ) (count : ℕ) : Type 0 where
+  pub taken : ℕ
+  pub left : rest ≡ drop taken events
+  pub going : Going m w cues (lookups same h events) taken old out count
+
+-- What one round comes to.
+pub record RoundOf {L E : Type 0} (m : Ghosts L) (same : E → E → Bool) (h : Held E) (cues : List (List ℕ)) (events : List E) (old : List ℕ) (w : Watch L) (rest : List E) (out : List ℕ) (count : ℕ) (new : List Entry) (r : Followed) : Type 0 where
+  pub some : 0 < r.taken
+  pub fits : r.written ≤ length new
+  pub small : count + r.written ≤ 32 * length events
+  pub within : r.taken ≤ length rest
+  pub next : (out' : List ℕ) → out' ≡ out ++ flat_map entry_text (take r.written new) → Underway m same h cues events old w (drop r.taken rest) out' (count + r.written)
+
+module _ {L E : Type 0} (m : Ghosts L) (same : E → E → Bool) (h : Held E) (cues : List (List ℕ)) (events : List E) (old : List ℕ) where
+  pub underway_none : (w : Watch L) → Reached m w cues [] → Underway m same h cues events old w events old 0
+  underway_none w r = record { taken = 0; left = refl; going = going_none m cues (lookups same h events) w old r }
+
+  pub underway_more : (v w : Watch L) (rest : List E) (out : List ℕ) (count : ℕ) (before new : List Entry) (r : Followed) →
+      Underway m same h cues events old v rest out count → 0 < length rest → length events ≤ 9999999 → 32 ≤ length before → length new ≡ length before →
+      Always m v (λ a. FollowAnswer a (lookups same h rest) before new r) → Leads m v (follows (lookups same h rest) (length before)) w →
+      RoundOf m same h cues events old w rest out count new r
+  underway_more v w rest out count before new r u some short room kept answer leads =
+      let n = length-map events (lookup same h) in
+      let left : length rest ≡ length events - u.taken = ap length u.left ∙ length-drop u.taken events in
+      let e : lookups same h rest ≡ drop u.taken (lookups same h events) = ap (lookups same h) u.left ∙ sym (drop-map (lookup same h) u.taken events) in
+      let t = turn m cues (lookups same h events) v w u.taken old out count before new r u.going (omega arith) (omega arith) room kept
+      (subst (λ ss. Always m v (λ a. FollowAnswer a ss before new r)) e answer) (subst (λ ss. Leads m v (follows ss (length before)) w) e leads) in
+      record {
+        some = t.some;
+        fits = t.fits;
+        small = omega (arith, t.small);
+        within = omega (arith, t.within);
+        next = λ out' grown. record {
+          taken = u.taken + r.taken;
+          left = ap (drop r.taken) u.left ∙ drop-drop r.taken u.taken events;
+          going = t.next out' grown;
+        };
+      }
+
+  -- No event is left.
+  pub underway_all : (w : Watch L) (rest : List E) (out : List ℕ) (count : ℕ) → Underway m same h cues events old w rest out count → length rest ≡ 0 → Wrote cues (lookups same h events) old out count
+  underway_all w rest out count u none =
+      let n = length-map events (lookup same h) in
+      let left : length rest ≡ length events - u.taken = ap length u.left ∙ length-drop u.taken events in
+      let all = take_all u.taken (lookups same h events) (omega arith) in
+      record {
+        lines = u.going.lines ∙ ap (λ x. old ++ entry_lines (sign_runs cues [] x)) all;
+        count = u.going.number ∙ ap (λ x. length (sign_runs cues [] x)) all;
+      }

@@ -1,6 +1,7 @@
 // Adding the cues of an input to a draft.
 
 ghost use Rattle.std.specs.Prelude.{◌≡◌, ◌^◌, ◌<◌, sum};
+ghost use Rattle.std.specs.Result.{result_err};
 ghost use Rattle.book.specs.Held.{draft_held};
 ghost use Rattle.script.specs.Steps.{BooksAll, lines_of};
 
@@ -24,17 +25,19 @@ pub(crate) fn book_cues<E: Event>(
     draft: &mut Draft<E>,
     layout: Layout,
     lens: &[usize],
-) -> Option<(Refusal, usize)>
+) -> Result<(), (Refusal, usize)>
     requires { sum lens.now < 2 ^ 63 }
-    ensures { BooksAll E.Event.same layout lens.now (draft_held draft.old) (draft_held draft.new) result }
+    ensures { BooksAll E.Event.same layout lens.now (draft_held draft.old) (draft_held draft.new) (result_err result) }
 {
+    // The place is a sum beside the count: the line of a refused cue may need either, and `scan` would carry
+    // both in one state.
     let mut place = 0;
     for (i, len) in lens.iter().enumerate() {
         let end = place + *len;
-        match draft.add(place, *len) {
-            Ok(_) => place = end,
-            Err(refusal) => return Some((refusal, lines_of(layout, i + 1, end))),
+        if let Err(refusal) = draft.add(place, *len) {
+            return Err((refusal, lines_of(layout, i + 1, end)));
         }
+        place = end;
     }
-    None
+    Ok(())
 }

@@ -5,7 +5,8 @@
 mod booking;
 mod limit;
 mod listing;
+mod refusing;
 mod whole;
 
 pub use limit::{is_long, refuse_long};
-pub use whole::report;
+pub use whole::{report, report_input};

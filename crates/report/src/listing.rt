@@ -47,14 +47,12 @@ fn follow_all<L: Engine, E: Event>(
     ensures { IfOk result (λ n. Wrote (cue_signs (book_held book.now)) (lookups E.Event.same (book_held book.now) events.now) out.old.items out.new.items n) }
 {
     let mut sightings = 0;
-    let mut taken = 0;
-    while taken < events.len() {
-        let (_, rest) = events.split_at(taken);
+    let mut rest = events;
+    while !rest.is_empty() {
         let followed = watch.follow(book, rest, entries);
-        let (written, _) = entries.split_at(followed.written);
-        write_entries(out, written)?;
+        write_entries(out, &entries[..followed.written])?;
         sightings += followed.written;
-        taken += followed.taken;
+        rest = &rest[followed.taken..];
     }
     Ok(sightings)
 }
@@ -65,10 +63,8 @@ fn load_book<E: Event>(heap: Global, book: &Book<E>) -> Result<Watch<LinkEngine>
 {
     let engine = LinkEngine::new(heap)?;
     let mut watch = Watch::new(heap, engine);
-    match watch.load(book) {
-        Ok(()) => Ok(watch),
-        Err(_) => unreachable(),
-    }
+    watch.load(book).unwrap();
+    Ok(watch)
 }
 
 // Writes a line for each run of the book's cues in the text; how many there are.
@@ -87,6 +83,5 @@ pub(crate) fn list_runs<E: Event>(
         cue: 0,
         len: 0,
     }; ENTRIES];
-    let sightings = follow_all(out, &mut watch, book, text, &mut entries)?;
-    Ok(sightings)
+    follow_all(out, &mut watch, book, text, &mut entries)
 }

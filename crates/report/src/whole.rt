@@ -1,27 +1,19 @@
 // The whole report.
 
-ghost use Rattle.std.specs.Prelude.{◌≡◌, ◌++◌, IfOk, OnOk};
+ghost use Rattle.std.specs.Prelude.{◌≡◌, ◌<◌, ◌≤◌, ◌++◌, length, Ok, IfOk, OnOk};
+ghost use Rattle.script.specs.Answered.{longest_input, too_long_report};
 ghost use Rattle.script.specs.Report.{contents_of, last_line, report_of};
 ghost use Rattle.script.specs.Told.{ReportedOnce};
-ghost use Rattle.events.specs.Refused.{number_of};
-ghost use Rattle.columns.specs.Written.{refusal_line};
 
 use crate::booking::{book_cues, lines_of};
+use crate::limit::{is_long, refuse_long};
 use crate::listing::list_runs;
+use crate::refusing::{refusal_text, refuse};
 use book::Draft;
-use columns::{refusal_line, total_line};
+use columns::total_line;
 use events::{Event, Refusal};
 use script::{Layout, Script};
 use std::alloc::{AllocError, Global};
-
-// Writes why a line is refused.
-fn write_refusal(out: &mut Vec<u8>, refusal: Refusal, line: usize) -> Result<(), AllocError>
-    ensures { OnOk result (out.new.items ≡ out.old.items ++ refusal_line (number_of refusal) line) }
-{
-    let text = refusal_line(refusal.number() as u64, line as u64);
-    out.extend_from_slice(&text)?;
-    Ok(())
-}
 
 // Writes the totals, or why the line behind the text's events is refused.
 fn write_last(
@@ -34,13 +26,9 @@ fn write_last(
     ensures { OnOk result (out.new.items ≡ out.old.items ++ last_line end line events sightings) }
 {
     match end {
-        None => {
-            let text = total_line(events as u64, sightings as u64);
-            out.extend_from_slice(&text)?;
-        }
-        Some(refusal) => write_refusal(out, refusal, line)?,
+        None => out.extend_from_slice(&total_line(events as u64, sightings as u64)),
+        Some(refusal) => out.extend_from_slice(&refusal_text(refusal, line)),
     }
-    Ok(())
 }
 
 // Writes the report.
@@ -59,17 +47,15 @@ fn write_report<E: Event + Drop>(
     } = script;
     let (events, lens) = cues.into_parts();
     let lines = lines_of(layout, lens.len(), events.len());
-    let mut out = Vec::new(heap);
     let mut draft = Draft::begin(heap, events)?;
-    if let Some((refusal, line)) = book_cues(&mut draft, layout, lens.as_slice()) {
-        write_refusal(&mut out, refusal, line)?;
-        return Ok(out);
+    if let Err((refusal, line)) = book_cues(&mut draft, layout, lens.as_slice()) {
+        return refuse(heap, refusal, line);
     }
     if let Some(refusal) = stop {
-        write_refusal(&mut out, refusal, lines + 1)?;
-        return Ok(out);
+        return refuse(heap, refusal, lines + 1);
     }
     let book = draft.seal();
+    let mut out = Vec::new(heap);
     let sightings = list_runs(heap, &mut out, &book, text.as_slice())?;
     let events = text.len();
     write_last(&mut out, end, lines + events + 2, events, sightings)?;
@@ -86,4 +72,22 @@ pub fn report<E: Event + Drop>(
     ensures once { ReportedOnce E.Event.same layout (contents_of script) }
 {
     write_report(heap, layout, script)
+}
+
+// All that is written for an input: that it is too long, or the report of what is read of it.
+pub fn report_input<E: Event + Drop, F: FnOnce(Global, &[u8]) -> Result<Script<E>, AllocError>>(
+    heap: Global,
+    input: &[u8],
+    layout: Layout,
+    read: F,
+) -> Result<Vec<u8>, AllocError>
+    requires { length input.now ≤ longest_input → F.pre read heap input }
+    ensures long { longest_input < length input.now → IfOk result (λ v. v.items ≡ too_long_report) }
+    ensures read { length input.now ≤ longest_input → IfOk result (λ v.
+        (s : _) × F.post read heap input.entry (Ok s) × (v.items ≡ report_of E.Event.same layout (contents_of s))) }
+{
+    if is_long(input) {
+        return refuse_long(heap);
+    }
+    report(heap, layout, read(heap, input)?)
 }

@@ -15,7 +15,8 @@ pub enum Layout {
 }
 
 // The cues; why the line behind them is refused, none where it is the parting line; the events of the
-// text behind that, and why the line behind them is refused, none where the input ends there.
+// text behind that, and why the line behind them is refused, none where the input ends there. A `stop` or
+// an `end` is a part of what an input says and no failure of the call, so it is no `Result`.
 #[derive(Drop)]
 pub struct Script<E> {
     pub cues: Cues<E>,

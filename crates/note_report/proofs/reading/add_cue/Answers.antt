@@ -1,18 +1,27 @@
-use Rattle.std.proofs.Common.{[], ◌∷◌, ◌++◌, get_or, sym, ap, ◌∙◌}
-use Rattle.std.proofs.lemmas.List.{take_more}
+use Rattle.std.proofs.Common.{[], ◌∷◌, ◌++◌, get_or, take, sym, ap, ◌∙◌}
+use Rattle.std.proofs.lemmas.List.{take_all, take_more}
 use Rattle.script.specs.Listed.{behind_last, cues_of}
-use Rattle.note_report.proofs.Bytes.{others, others_all, cue_more}
+use Rattle.note_report.proofs.Bytes.{behind_last_lem}
 use Rattle.note_report.proofs.reading.add_cue.Goals as goal
 
+pub loop-b-init : goal.loop-b-init
+loop-b-init c = (c.unwrap.result.0.now, (rw c.unwrap.ensures at c.split_first.ensures.cases).0, c.in_ok-begin.ensures)
+
 pub loop-b-preserved : goal.loop-b-preserved
-loop-b-preserved c before e =
-    let bytes = c.args.bytes.now in
+loop-b-preserved c =
+    let first = c.loop-b.invariant.0 in
+    let others = c.unwrap.result.1.now in
     let i = c.loop-b.b-index in
-    c.in_ok-extend.ensures ∙ (ap (λ cs. behind_last cs (get_or (others bytes) i 0)) (c.loop-b.invariant before e) ∙ cue_more before bytes i c.loop-b-test.true)
+    let before = cues_of c.args.cues.now in (
+      first,
+      c.loop-b.invariant.1,
+      c.in_ok-extend.ensures ∙
+      (ap (λ cs. behind_last cs (get_or others i 0)) c.loop-b.invariant.2 ∙
+      (behind_last_lem before (first ∷ take i others) (get_or others i 0) ∙ ap (λ t. before ++ (first ∷ t) ∷ []) (sym (take_more others i 0 c.loop-b-test.true)))),
+    )
 
 pub returns : goal.returns
 returns c =
-    let bytes = c.args.bytes.now in
+    let first = c.loop-b.invariant.0 in
     let before = cues_of c.args.cues.now in
-    let begun = c.in_ok-begin.ensures ∙ ap (λ t. before ++ t ∷ []) (sym (take_more bytes 0 0 c.requires)) in
-    c.loop-b.invariant before begun ∙ ap (λ t. before ++ t ∷ []) (others_all bytes c.loop-b.b-index c.loop-b-test.false)
+    c.loop-b.invariant.2 ∙ (ap (λ t. before ++ (first ∷ t) ∷ []) (take_all c.loop-b.b-index c.unwrap.result.1.now c.loop-b-test.false) ∙ ap (λ t. before ++ t ∷ []) (sym c.loop-b.invariant.1))

@@ -1,18 +1,11 @@
 use Rattle.std.proofs.Common.{◌≡◌, ℕ, ◌+◌, ◌<◌, Bool, List, [], ◌∷◌, ◌++◌, map, length, get_or, take, sym, refl, ap, ◌∙◌, subst, arith}
 use Rattle.std.proofs.lemmas.List.{get_or-map, length-map}
-use Rattle.std.proofs.lemmas.List.Sums.{sum_by_more, sum_by-take-le}
+use Rattle.std.proofs.lemmas.List.Sums.{sum_by_more}
 use Rattle.book.specs.Held.{Held, draft_held, Signed, add_refused}
-use Rattle.script.proofs.Booked.{count_is, lines_are, place_is, size_is, so_far_all, so_far_more, so_far_refusal, so_far_stop}
+use Rattle.script.proofs.Booked.{count_is, lines_are, place_is, size_is, so_far_more, so_far_refusal, so_far_stop}
 use Rattle.script.specs.Booking.{held_with, size}
 use Rattle.watch.proofs.Answered.{answer_ok, answer_err}
 use Rattle.report.proofs.booking.book_cues.Goals as goal
-
-pub overflow_add-end : goal.overflow_add-end
-overflow_add-end g c =
-    let lens = c.args.lens.now in
-    let more = sum_by_more (λ x. x) lens c.loop-i.i 0 c.loop-i-test.true in
-    let most = sum_by-take-le (λ x. x) lens (c.loop-i.i + 1) in
-    omega (arith, c.loop-i.invariant.0, more, most, c.requires)
 
 -- The lengths as the cues have them.
 len_is : {E : Type 0} (lens : List ℕ) (cues : List (List E)) → lens ≡ map length cues → (i : ℕ) → i < length lens → (i < length cues) × (get_or lens i 0 ≡ length (get_or cues i []))
@@ -53,11 +46,6 @@ loop-i-preserved g c =
           let l = len_is lens cues e i c.loop-i-test.true in
           let at : c.loop-i.place ≡ size (take i cues) = c.loop-i.invariant.0 ∙ place_is same layout cues i lens e in
           let rule = so_far_refusal same layout cues i (draft_held d) s d.book.bounded l.0 c.loop-i.place (get_or lens i 0) at l.1 in
-          let why = answer_ok (add_refused same (draft_held d) c.loop-i.place (get_or lens i 0)) _ _ (c.in-Ok.ensures.same (signed-so-far same cues (take i cues) (draft_held d) s.held)) in
-          so_far_more same layout cues i (draft_held d) (draft_held c.add.new.self) s l.0 c.loop-i.place (get_or lens i 0) at l.1 (sym rule ∙ why) c.in-Ok.ensures.cues,
+          let why = answer_ok (add_refused same (draft_held d) c.loop-i.place (get_or lens i 0)) _ _ (c.in_default.ensures.same (signed-so-far same cues (take i cues) (draft_held d) s.held)) in
+          so_far_more same layout cues i (draft_held d) (draft_held c.add.new.self) s l.0 c.loop-i.place (get_or lens i 0) at l.1 (sym rule ∙ why) c.in_default.ensures.cues,
     )
-
-pub returns : goal.returns
-returns g c cues e begun =
-    so_far_all g.E.Event.same c.args.layout cues c.loop-i.i (draft_held c.loop-i.draft) (c.loop-i.invariant.1 cues e begun)
-    (omega (arith, c.loop-i-test.false, ap length e, length-map cues length))

@@ -1,15 +1,7 @@
-use Rattle.std.proofs.Common.{◌+◌, [], ◌∷◌, ◌++◌, vec_items, sum, sym, ap, ◌∙◌}
-use Rattle.std.proofs.lemmas.List.Sums.{sum_by_push}
+use Rattle.std.proofs.Common.{[], ◌∷◌, ◌++◌, vec_items, ap, ◌∙◌}
 use Rattle.script.specs.Listed.{split}
 use Rattle.script.proofs.Splitting.{split_append}
 use Rattle.script.proofs.cues.Cues.begin.Goals as goal
-
-pub invariant_of-self-2 : goal.invariant_of-self-2
-invariant_of-self-2 g c =
-    let d = c.args.self.now in
-    let items = c.push_reserved.ensures.items ∙ ap (λ xs. xs ++ 1 ∷ []) c.reserve.ensures.items in
-    let long = c.in_ok-push.ensures.len in
-    record { whole = ap sum items ∙ (sum_by_push (λ x. x) (vec_items d.lens) 1 ∙ (ap (λ n. n + 1) d.whole ∙ sym long)) }
 
 pub returns : goal.returns
 returns g c =
