@@ -7,7 +7,7 @@ use events::Event;
 
 // An event that is known by its number.
 #[repr(C)]
-#[derive(Clone, Copy)]
+#[derive(Clone, Copy, PartialEq, Eq, Debug)]
 pub struct Number {
     pub value: u16,
 }
@@ -23,6 +23,6 @@ impl Event for Number {
     ghost transitive = { Prim.search rules };
 
     fn same(&self, other: &Number) -> bool {
-        self.value == other.value
+        self == other
     }
 }

@@ -1,0 +1,3 @@
+pub mod Frames
+pub mod Words
+pub mod Answers

@@ -1,0 +1,12 @@
+// What the programs that run vectors share: the frames that their input consists of, and the numbers in
+// the words of a line.
+
+#![tactic(auto)]
+
+mod answers;
+mod frame;
+mod words;
+
+pub use answers::answer_frames;
+pub use frame::{Frame, Frames};
+pub use words::number_in;
