@@ -22,10 +22,7 @@ unended (b ∷ bs) h =
     let other : b ≡ 10 → ⊥ = λ z. h [] (grind arith) in
     (other, unended bs (λ t e. h (b ∷ t) (cond-false (eqb b 10) _ _ (ne_eqb b 10 other) ∙ ap (λ l. b ∷ l) e)))
 
--- the two ways in which a first line lacks its byte 10: it has no byte, or another one is its last
-pub no_line : (xs line : List ℕ) → line ≡ first_line xs → length line ≡ 0 → Unbroken xs
-no_line xs line f z = unended xs (λ t e. grind (arith, length-append t (10 ∷ []), ap length f, ap length e))
-
+-- where another byte is its last, it lacks its byte 10
 pub no_end : (xs line t : List ℕ) (l : ℕ) → line ≡ first_line xs → line ≡ t ++ l ∷ [] → (l ≡ 10 → ⊥) → Unbroken xs
 no_end xs line t l f s other = unended xs (λ u e. other (same_from_push t u l 10 (sym s ∙ (f ∙ e))).1)
 

@@ -1,6 +1,6 @@
 -- Following in rounds: a watch on its way through the signs of a text.
-use Rattle.std.proofs.Common.{◌≡◌, ℕ, ◌+◌, ◌-◌, ◌*◌, ◌<◌, ◌≤◌, Bool, List, [], ◌∷◌, ◌++◌, map, length, take, drop, sym, refl, ap, ◌∙◌, subst, append_assoc, append-nil, arith}
-use Rattle.std.proofs.lemmas.List.{drop-drop, drop-map, length-append, length-drop, length-map, take_all, take_at}
+use Rattle.std.proofs.Common.{◌≡◌, ℕ, ◌+◌, ◌-◌, ◌*◌, ◌<◌, ◌≤◌, Bool, List, [], ◌∷◌, ◌++◌, map, length, take, drop, sym, refl, ap, ◌∙◌, subst, append_assoc, arith}
+use Rattle.std.proofs.lemmas.List.{drop-drop, drop-map, length-append, length-drop, length-map, take_at}
 use Rattle.std.specs.List.{flat_map}
 use Rattle.book.specs.Held.{Held, lookup, lookups}
 use Rattle.book.specs.declared.entry.Entry.{Entry}
@@ -17,7 +17,7 @@ use Rattle.watch.specs.Following.{FollowAnswer, entry_of}
 use Rattle.watch.specs.declared.following.Followed.{Followed}
 use Rattle.watch.specs.declared.watch.Watch.{Watch}
 use Rattle.report.proofs.Lines.{entry_lines_append, lines_of_entries}
-use Rattle.report.specs.Reached.{Reached, Wrote, entry_text}
+use Rattle.report.specs.Reached.{Reached, entry_text}
 
 -- So many signs are taken, and a line is written for each sighting of them.
 pub record Going {L : Type 0} (m : Ghosts L) (w : Watch L) (cues : List (List ℕ)) (ss : List ℕ) (taken : ℕ) (old out : List ℕ) (count : ℕ) : Type 0 where
@@ -52,9 +52,6 @@ told a cues text signs before new r p q f =
     }
 
 module _ {L : Type 0} (m : Ghosts L) (cues : List (List ℕ)) (ss : List ℕ) where
-  pub going_none : (w : Watch L) (old : List ℕ) → Reached m w cues [] → Going m w cues ss 0 old old 0
-  going_none w old r = record { within = omega arith; reached = r; lines = sym (append-nil old); number = refl }
-
   -- The lines and the number after one round more.
   written_more : (taken f : ℕ) (old out out' : List ℕ) (count n : ℕ) (es : List (ℕ × ℕ × ℕ)) → sign_runs cues [] (take (taken + f) ss) ≡ sign_runs cues [] (take taken ss) ++ es →
       out ≡ old ++ entry_lines (sign_runs cues [] (take taken ss)) → count ≡ length (sign_runs cues [] (take taken ss)) → n ≡ length es → out' ≡ out ++ entry_lines es →
@@ -118,9 +115,6 @@ pub record RoundOf {L E : Type 0} (m : Ghosts L) (same : E → E → Bool) (h : 
   pub next : (out' : List ℕ) → out' ≡ out ++ flat_map entry_text (take r.written new) → Underway m same h cues events old w (drop r.taken rest) out' (count + r.written)
 
 module _ {L E : Type 0} (m : Ghosts L) (same : E → E → Bool) (h : Held E) (cues : List (List ℕ)) (events : List E) (old : List ℕ) where
-  pub underway_none : (w : Watch L) → Reached m w cues [] → Underway m same h cues events old w events old 0
-  underway_none w r = record { taken = 0; left = refl; going = going_none m cues (lookups same h events) w old r }
-
   pub underway_more : (v w : Watch L) (rest : List E) (out : List ℕ) (count : ℕ) (before new : List Entry) (r : Followed) →
       Underway m same h cues events old v rest out count → 0 < length rest → length events ≤ 9999999 → 32 ≤ length before → length new ≡ length before →
       Always m v (λ a. FollowAnswer a (lookups same h rest) before new r) → Leads m v (follows (lookups same h rest) (length before)) w →
@@ -141,15 +135,4 @@ module _ {L E : Type 0} (m : Ghosts L) (same : E → E → Bool) (h : Held E) (c
           left = ap (drop r.taken) u.left ∙ drop-drop r.taken u.taken events;
           going = t.next out' grown;
         };
-      }
-
-  -- No event is left.
-  pub underway_all : (w : Watch L) (rest : List E) (out : List ℕ) (count : ℕ) → Underway m same h cues events old w rest out count → length rest ≡ 0 → Wrote cues (lookups same h events) old out count
-  underway_all w rest out count u none =
-      let n = length-map events (lookup same h) in
-      let left : length rest ≡ length events - u.taken = ap length u.left ∙ length-drop u.taken events in
-      let all = take_all u.taken (lookups same h events) (omega arith) in
-      record {
-        lines = u.going.lines ∙ ap (λ x. old ++ entry_lines (sign_runs cues [] x)) all;
-        count = u.going.number ∙ ap (λ x. length (sign_runs cues [] x)) all;
       }

@@ -1,6 +1,6 @@
 -- Adding the cues one by one: what is held after some of them, and how it ends.
 use Rattle.std.proofs.Common.{◌≡◌, ℕ, ◌+◌, ◌<◌, ◌≤◌, Bool, List, [], ◌∷◌, ◌++◌, map, length, get_or, take, drop, Some, None, sum, Option, sym, refl, ap, ◌∙◌, arith}
-use Rattle.std.proofs.lemmas.List.{at_drop_more, at_drop_all, length-append, length-take-le, map-append, take-append-drop, take_all, drop_more, take-map, take_more}
+use Rattle.std.proofs.lemmas.List.{at_drop_more, length-append, length-take-le, map-append, take-append-drop, drop_more, take-map, take_more}
 use Rattle.std.proofs.lemmas.List.Sums.{sum_by-cons}
 use Rattle.events.specs.declared.Refusal.{Refusal}
 use Rattle.book.specs.Cues.{cue_at, total}
@@ -43,9 +43,6 @@ module _ {E : Type 0} (same : E → E → Bool) (layout : Layout) (cues : List (
   pub record SoFar (i : ℕ) (h : Held E) : Type 0 where
     pub rest : (later : Option (Refusal × ℕ)) → first_refused same layout (take i cues) (drop i cues) later ≡ first_refused same layout [] cues later
     pub held : h ≡ held_with same cues (take i cues)
-
-  pub so_far_none : (h : Held E) → h ≡ held_with same cues [] → SoFar 0 h
-  so_far_none h e = record { rest = λ later. refl; held = e }
 
   split_at : (i : ℕ) → i < length cues → cues ≡ take i cues ++ get_or cues i [] ∷ drop (i + 1) cues
   split_at i h = sym (take-append-drop i cues) ∙ ap (λ z. take i cues ++ z) (drop_more cues i [] h)
@@ -97,13 +94,6 @@ module _ {E : Type 0} (same : E → E → Bool) (layout : Layout) (cues : List (
             (ap (λ o. or_later o (line_count layout (take i cues ++ get_or cues i [] ∷ [])) (first_refused same layout (take i cues ++ get_or cues i [] ∷ []) (drop (i + 1) cues) later)) (sym why) ∙
             (sym (one_more i lt later) ∙ s.rest later));
         held = λ e. absurd (grind arith);
-      }
-
-  pub so_far_all : (i : ℕ) (h : Held E) → SoFar i h → length cues ≤ i → Books same layout cues None h
-  so_far_all i h s all =
-      record {
-        value = λ later. sym (at_drop_all (λ cs. first_refused same layout (take i cues) cs later) cues i all) ∙ s.rest later;
-        held = λ e. s.held ∙ ap (held_with same cues) (take_all i cues all);
       }
 
   -- The places and lengths that the loop counts.
