@@ -5,13 +5,13 @@ ghost use Rattle.bits.specs.Views.{cost_of, cues_of, live_of};
 
 use crate::shift_and::BitEngine;
 use crate::shift_and::cues::count_set;
-use crate::word::front_len;
+use crate::word::{BITS, front_len};
 use book::Book;
 use engine::Engine;
 use events::{Event, Refusal};
 
 impl Engine for BitEngine {
-    const CAPACITY: usize = 64;
+    const CAPACITY: usize = BITS;
 
     ghost CAPACITY = { 64 };
 
