@@ -87,7 +87,8 @@ impl Table {
         }
     }
 
-    // One level: each cue with more than k signs.
+    // One level: each cue with more than k signs. `grow` borrows the whole table, so the loop goes over
+    // the numbers of the cues and not over the cues.
     fn level(&mut self, k: usize)
         requires { Building self.old k 0 }
         ensures building { Building self.new (k + 1) 0 }

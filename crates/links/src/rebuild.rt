@@ -5,9 +5,11 @@ ghost use Rattle.book.specs.Cues.{AllWithin, parts_of};
 ghost use Rattle.matching.specs.Match.{distinct};
 ghost use Rattle.links.specs.Tables.{Building, Bookable, cues_in, Kept, ReadyIn, Roomy};
 
+use crate::link_engine::LinkEngine;
 use crate::lists::{fill, refill};
 use crate::table::{SLOTS, Table};
 use book::Cue;
+use engine::Engine;
 use links_theory::Node;
 use std::alloc::{AllocError, Global};
 
@@ -25,7 +27,8 @@ const MATERIAL: usize = 2048;
 
 const CUES: usize = 128;
 
-const NODES: usize = 1025;
+// One entry for each sign of the cues at most, and the root.
+const NODES: usize = LinkEngine::CAPACITY + 1;
 
 impl Table {
     // An empty table with memory for any book.

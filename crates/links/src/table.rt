@@ -11,19 +11,23 @@ use links_theory::Node;
 pub(crate) const SLOTS: usize = 1024;
 
 // The cues, as parts of the signs, and an entry for each beginning of a cue. Entry 0 is the empty one.
+// All memory is got by `reserve`, and no later call may fail for want of it: so an entry is named by its
+// number in `nodes`, and found in a hash table of fixed size, where Box and maps would get memory later.
 #[derive(Drop)]
 pub(crate) struct Table {
     pub(crate) signs: Vec<u16>,
     pub(crate) cues: Vec<Cue>,
     pub(crate) nodes: Vec<Node>,
-    // The newest entry of each chain of a hash table over (parent, sign); 0 where there is none.
+    // The newest entry of each chain of a hash table over (parent, sign). 0 ends a chain: entry 0 is the
+    // root, which no chain has, so an Option would take twice the memory and bring no check.
     pub(crate) heads: Vec<u16>,
-    // While the table is built: the entry of the first signs of each cue.
+    // While the table is built: the entry of the first signs of each cue. It stands beside `cues`, since
+    // those are copied from the book as they are.
     pub(crate) places: Vec<u16>,
 }
 
 // Where a walk ended, and its trials (textbook: goto tests).
-#[derive(Clone, Copy, Debug)]
+#[derive(Clone, Copy, PartialEq, Eq, Debug)]
 pub(crate) struct Walk {
     pub(crate) at: u16,
     pub(crate) trials: u32,
@@ -44,6 +48,8 @@ fn is_child(node: Node, parent: u16, sign: u16) -> bool
     (node.parent, node.sign) == (parent, sign)
 }
 
+// What holds of the entries is required, not part of the type: it does not hold before `begin`, nor
+// between `add` and `set_link`.
 impl Table {
     // An entry.
     pub(crate) fn node(&self, at: u16) -> Node

@@ -11,7 +11,7 @@ ghost use Rattle.links.specs.Tables.{seen_at};
 use crate::link_engine::LinkEngine;
 use crate::queries::Sightings;
 use crate::table::Table;
-use book::{Book, Cue};
+use book::Book;
 use engine::Engine;
 use events::{Event, Refusal};
 use std::alloc::{AllocError, Global};
@@ -22,9 +22,7 @@ impl LinkEngine {
         ensures { IfOk result (λ e. (engine_cues e ≡ []) × (engine_live e ≡ []) × (e.trials ≡ 0)) }
     {
         let mut table = Table::reserve(heap)?;
-        let signs: [u16; 0] = [];
-        let cues: [Cue; 0] = [];
-        table.rebuild(&signs, &cues);
+        table.rebuild(&[], &[]);
         Ok(LinkEngine {
             table,
             at: 0,

@@ -3,9 +3,6 @@ use Rattle.links_theory.proofs.Paths.{path_root}
 use Rattle.links.specs.Tables.{cues_in}
 use Rattle.links.proofs.link_engine.LinkEngine.new.Goals as goal
 
-pub invariant_of-result : goal.invariant_of-result
-invariant_of-result c = let told = c.rebuild.ensures in record { ready = ∣ told.ready ∣₁; within = told.within; room = told.room }
-
 pub returns : goal.returns
 returns c =
     let told = c.rebuild.ensures in

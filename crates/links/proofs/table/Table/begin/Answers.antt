@@ -6,32 +6,21 @@ use Rattle.links_theory.proofs.Growth.{growing_none, growing_moved}
 use Rattle.links_theory.proofs.Parts.{cues_length}
 use Rattle.links.proofs.table.Table.begin.Goals as goal
 
-pub returns : goal.returns
-returns c =
+pub returns-clause-building : goal.returns-clause-building
+returns-clause-building c =
     let signs = c.refill.ensures.items in
     let cues = c.refill-2.ensures.items in
     let nodes = c.fill.ensures.items in
     let heads = c.fill-2.ensures.items in
     let places = c.fill-3.ensures.items in
     let book = c.requires.book in
-    let room = c.requires.room in
     let all = ap (λ xs. parts_of xs (vec_items c.refill-2.new.list)) signs ∙ ap (parts_of c.args.signs.now) cues in
     let none : length (vec_items c.fill.new.list) ≡ 1 = ap length nodes in
-    let long = ap length cues in
     record {
-      building =
-          record {
-            growing = subst (λ cs. Growing cs (vec_items c.fill.new.list) (vec_items c.fill-2.new.list) (vec_items c.fill-3.new.list) 0 0) (sym all) (growing_moved 0 0 refl nodes heads (places ∙ ap (λ n. replicate n zero) (sym (cues_length c.args.signs.now c.args.cues.now))) (growing_none (parts_of c.args.signs.now c.args.cues.now)));
-            few = omega (arith, none);
-            fits = subst (λ cs. total cs ≤ 1024) (sym all) book.fits;
-            within = subst (λ xs. AllWithin (length xs) (vec_items c.refill-2.new.list)) (sym signs) (subst (AllWithin (length c.args.signs.now)) (sym cues) book.within);
-            numbers = omega (arith, long, book.numbers);
-            room = omega (arith, c.fill.ensures.room, room.0.2);
-          };
-      signs = signs;
-      cues = cues;
-      room = (
-        (omega (arith, c.refill.ensures.room, room.0.0), omega (arith, c.refill-2.ensures.room, room.0.1), omega (arith, c.fill.ensures.room, room.0.2)),
-        (omega (arith, c.fill-2.ensures.room, room.1.0), omega (arith, c.fill-3.ensures.room, room.1.1)),
-      );
+      growing = subst (λ cs. Growing cs (vec_items c.fill.new.list) (vec_items c.fill-2.new.list) (vec_items c.fill-3.new.list) 0 0) (sym all) (growing_moved 0 0 refl nodes heads (places ∙ ap (λ n. replicate n zero) (sym (cues_length c.args.signs.now c.args.cues.now))) (growing_none (parts_of c.args.signs.now c.args.cues.now)));
+      few = omega (arith, none);
+      fits = subst (λ cs. total cs ≤ 1024) (sym all) book.fits;
+      within = subst (λ xs. AllWithin (length xs) (vec_items c.refill-2.new.list)) (sym signs) (subst (AllWithin (length c.args.signs.now)) (sym cues) book.within);
+      numbers = omega (arith, ap length cues, book.numbers);
+      room = omega (arith, c.fill.ensures.room, c.requires.room.0.2);
     }

@@ -1,13 +1,13 @@
-use Rattle.std.proofs.Common.{◌≡◌, ℕ, suc, ◌+◌, ◌<◌, ◌≤◌, List, [], ◌∷◌, ◌++◌, length, get_or, take, vec_items, sym, refl, ap, ◌∙◌, arith, rules}
+use Rattle.std.proofs.Common.{◌≡◌, ℕ, suc, ◌+◌, ◌<◌, ◌≤◌, List, [], ◌∷◌, ◌++◌, length, get_or, take, vec_items, sym, ap, ◌∙◌, arith, rules}
 use Rattle.std.proofs.lemmas.List.{get_or_read, length_push}
 use Rattle.links_theory.specs.declared.Node.{Node}
-use Rattle.links_theory.specs.Entries.{new_node, slot_of, path}
+use Rattle.links_theory.specs.Entries.{path}
 use Rattle.links_theory.proofs.Walks.{complete_less}
-use Rattle.links_theory.proofs.Growth.{parent_within, parent_len, found_path, growing_more, made_last, link_last, growing_moved, done_most, done_more}
-use Rattle.links_theory.proofs.Parts.{cue_short, cues_length}
+use Rattle.links_theory.proofs.Growth.{parent_len, growing_more, made_last, link_last, growing_moved, done_most, done_more}
+use Rattle.links_theory.proofs.Parts.{cue_short}
 use Rattle.links.specs.declared.table.Table.{Table}
 use Rattle.links.specs.Tables.{cues_in, Building}
-use Rattle.links.proofs.Steps.{kept_same, kept_more, kept_cues}
+use Rattle.links.proofs.Steps.{kept_more, kept_cues}
 use Rattle.links.proofs.table.Table.enter.Goals as goal
 
 -- the parent is the place of the cue
@@ -25,37 +25,12 @@ roomy : (t : Table) (k i : ℕ) → Building t k i → i < length (cues_in t) �
 roomy t k i b h l =
     omega (arith, b.few, b.fits, done_more k i (cues_in t) h l, done_most k (suc i) (cues_in t))
 
-pub returns-in-Some : goal.returns-in-Some
-returns-in-Some c =
+pub link_from-link-requires-clause-full : goal.link_from-link-requires-clause-full
+link_from-link-requires-clause-full c =
     let t = c.args.self.now in
     let b = c.requires.building in
-    record {
-      growing = b.growing;
-      few = omega arith;
-      within = c.in-Some.ensures.some.1.within;
-      path = found_path (cues_in t) (vec_items t.nodes) (vec_items t.heads) (vec_items t.places) c.args.k c.args.number b.growing c.requires.number c.requires.longer (short t c.args.k c.args.number b) c.index-parent.result.now c.args.sign (place_read t c.args.k c.args.number c.index-parent.result.now b c.requires.number c.index-parent.ensures) c.requires.sign c.in-Some.child c.in-Some.ensures.some.1 c.in-Some.ensures.some.0;
-      places = refl;
-      kept = kept_same t;
-    }
-
-pub link_from-link-requires : goal.link_from-link-requires
-link_from-link-requires c =
-    let t = c.args.self.now in
-    let b = c.requires.building in
-    let w = parent_within (cues_in t) (vec_items t.nodes) (vec_items t.heads) (vec_items t.places) c.args.k c.args.number b.growing c.requires.number c.requires.longer (short t c.args.k c.args.number b) c.index-parent.result.now c.args.sign (place_read t c.args.k c.args.number c.index-parent.result.now b c.requires.number c.index-parent.ensures) c.requires.sign in
     let n = parent_len (cues_in t) (vec_items t.nodes) (vec_items t.heads) (vec_items t.places) c.args.k c.args.number b.growing c.requires.number c.requires.longer (short t c.args.k c.args.number b) c.index-parent.result.now c.args.sign (place_read t c.args.k c.args.number c.index-parent.result.now b c.requires.number c.index-parent.ensures) c.requires.sign in
-    record {
-      sound = b.growing.sound;
-      within = omega (arith, w, t.nodes.ok.0);
-      full = complete_less (cues_in t) (vec_items t.nodes) _ c.args.k (omega (arith, n)) b.growing.complete;
-    }
-
-pub overflow_cast-number : goal.overflow_cast-number
-overflow_cast-number c =
-    let t = c.args.self.now in
-    let b = c.requires.building in
-    let small : c.args.number < 128 = omega (arith, c.requires.number, b.numbers, cues_length (vec_items t.signs) (vec_items t.cues)) in
-    search rules
+    complete_less (cues_in t) (vec_items t.nodes) _ c.args.k (omega (arith, n)) b.growing.complete
 
 pub overflow_cast-k : goal.overflow_cast-k
 overflow_cast-k c =
@@ -77,12 +52,6 @@ add-at-requires c =
     let b = c.requires.building in
     let few = roomy t c.args.k c.args.number b c.requires.number c.requires.longer in
     record { room = omega (arith, few, b.room, t.nodes.ok.0); few = omega (arith, few, t.nodes.ok.0); heads = b.growing.sound.heads_long }
-
-pub set_link-requires : goal.set_link-requires
-set_link-requires c =
-    let t = c.args.self.now in
-    let u = c.add-at.new.self in
-    omega (arith, c.add-at.ensures.value, pushed (vec_items t.nodes) (vec_items u.nodes) (new_node c.index-parent.result.now c.args.sign (get_or (vec_items t.heads) (slot_of c.index-parent.result.now c.args.sign) 0) 0 c.args.number (c.args.k + 1)) c.add-at.ensures.nodes, u.nodes.ok.0)
 
 pub returns : goal.returns
 returns c =

@@ -1,10 +1,9 @@
 use Rattle.std.proofs.Common.{◌≡◌, ℕ, suc, ◌+◌, ◌<◌, ◌≤◌, [], length, get_or, vec_items, vec_len, sym, refl, ap, ◌∙◌, arith}
 use Rattle.std.specs.Vec.{with_item}
-use Rattle.std.proofs.lemmas.List.{get_or_read}
 use Rattle.book.specs.declared.cue.Cue.{Cue}
 use Rattle.links_theory.specs.Entries.{done}
 use Rattle.links_theory.proofs.Growth.{growing_short, growing_placed, growing_moved, done_same, done_more}
-use Rattle.links_theory.proofs.Parts.{cue_length, cue_sign, cues_length}
+use Rattle.links_theory.proofs.Parts.{cue_length, cues_length}
 use Rattle.links.specs.declared.table.Table.{Table}
 use Rattle.links.specs.Tables.{cues_in, Kept, Building}
 use Rattle.links.proofs.Steps.{kept_same, kept_cues, building_kept}
@@ -17,31 +16,8 @@ numbered t i h = omega (arith, h, t.cues.ok.0)
 length-read : (t : Table) (k i : ℕ) (d : Cue) → Building t k i → i < vec_len t.cues → d ≡ get_or (vec_items t.cues) i d → length (get_or (cues_in t) i []) ≡ d.len
 length-read t k i d b h e = cue_length (vec_items t.signs) (vec_items t.cues) b.within i d (numbered t i h) ∙ ap (λ x. x.len) (sym e)
 
-pub enter-at-requires : goal.enter-at-requires
-enter-at-requires c =
-    let t = c.args.self.now in
-    let b = c.requires.building in
-    let cue = c.index-cue.result.now in
-    let is = c.index-cue.ensures in
-    let long = length-read t c.args.k c.args.number cue b c.requires.number is in
-    let in' = numbered t c.args.number c.requires.number in
-    let w = b.within c.args.number cue in' in
-    record {
-      building = b;
-      number = omega (arith, in', cues_length (vec_items t.signs) (vec_items t.cues));
-      longer = omega (arith, long, c.if-k-cue.true);
-      sign =
-          get_or_read (vec_items t.signs) (cue.place + c.args.k) c.index-sign.result.now (omega (arith, w.2, ap (λ x. x.place) is, ap (λ x. x.len) is, c.if-k-cue.true)) c.index-sign.ensures 0 ∙ ap (λ x. get_or (vec_items t.signs) (x.place + c.args.k) 0) is ∙ sym (cue_sign (vec_items t.signs) (vec_items t.cues) c.args.number c.args.k cue in' (omega (arith, ap (λ x. x.len) is, c.if-k-cue.true)));
-    }
-
-pub index_mut-requires : goal.index_mut-requires
-index_mut-requires c =
-    let t = c.args.self.now in
-    let same = ap vec_len c.enter-at.ensures.places in
-    omega (arith, same, t.places.ok.0, c.requires.building.growing.spots, numbered t c.args.number c.requires.number, cues_length (vec_items t.signs) (vec_items t.cues))
-
-pub returns-then-k-cue : goal.returns-then-k-cue
-returns-then-k-cue c =
+pub returns-then-k-cue-clause-building : goal.returns-then-k-cue-clause-building
+returns-then-k-cue-clause-building c =
     let t = c.args.self.now in
     let u = c.enter-at.new.self in
     let b = c.requires.building in
@@ -53,29 +29,21 @@ returns-then-k-cue c =
     let v : Table = record { signs = u.signs; cues = u.cues; nodes = u.nodes; heads = u.heads; places = with_item u.places c.args.number c.enter-at.result } in
     let kept : Kept t v = record { signs = told.kept.signs; cues = told.kept.cues; nodes = told.kept.nodes; heads = told.kept.heads; places = told.kept.places } in
     let g = growing_placed (cues_in u) (vec_items u.nodes) (vec_items u.heads) (vec_items u.places) c.args.k c.args.number c.enter-at.result told.growing (omega (arith, in', ap length cues)) told.within told.path in
-    record {
-      building =
-          building_kept t v c.args.k c.args.number (c.args.number + 1) b kept (growing_moved c.args.k (c.args.number + 1) (sym cues) refl refl refl g)
-          (omega (arith, b.few, told.few, done_next c.args.k c.args.number t in' (omega (arith, long, c.if-k-cue.true))));
-      kept = kept;
-    }
+    building_kept t v c.args.k c.args.number (c.args.number + 1) b kept (growing_moved c.args.k (c.args.number + 1) (sym cues) refl refl refl g)
+    (omega (arith, b.few, told.few, done_next c.args.k c.args.number t in' (omega (arith, long, c.if-k-cue.true))))
   where
     done_next : (k i : ℕ) (t : Table) → i < length (cues_in t) → k < length (get_or (cues_in t) i []) → done k (i + 1) (cues_in t) ≡ done k i (cues_in t) + 1
     done_next k i t h l = ap (λ n. done k n (cues_in t)) (let e : i + 1 ≡ suc i = omega arith in e) ∙ done_more k i (cues_in t) h l
 
-pub returns-else-k-cue : goal.returns-else-k-cue
-returns-else-k-cue c =
+pub returns-else-k-cue-clause-building : goal.returns-else-k-cue-clause-building
+returns-else-k-cue-clause-building c =
     let t = c.args.self.now in
     let b = c.requires.building in
     let long = length-read t c.args.k c.args.number c.index-cue.result.now b c.requires.number c.index-cue.ensures in
     let short : length (get_or (cues_in t) c.args.number []) ≤ c.args.k = omega (arith, long, c.if-k-cue.false) in
-    record {
-      building =
-          building_kept t t c.args.k c.args.number (c.args.number + 1) b (kept_same t)
-          (growing_short (cues_in t) (vec_items t.nodes) (vec_items t.heads) (vec_items t.places) c.args.k c.args.number b.growing short)
-          (omega (arith, b.few, done_next c.args.k c.args.number t short));
-      kept = kept_same t;
-    }
+    building_kept t t c.args.k c.args.number (c.args.number + 1) b (kept_same t)
+    (growing_short (cues_in t) (vec_items t.nodes) (vec_items t.heads) (vec_items t.places) c.args.k c.args.number b.growing short)
+    (omega (arith, b.few, done_next c.args.k c.args.number t short))
   where
     done_next : (k i : ℕ) (t : Table) → length (get_or (cues_in t) i []) ≤ k → done k (i + 1) (cues_in t) ≡ done k i (cues_in t)
     done_next k i t h = ap (λ n. done k n (cues_in t)) (let e : i + 1 ≡ suc i = omega arith in e) ∙ done_same k i (cues_in t) h

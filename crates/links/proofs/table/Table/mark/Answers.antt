@@ -15,11 +15,6 @@ loop-number-init c =
       refl,
     )
 
-pub index_mut-requires : goal.index_mut-requires
-index_mut-requires c =
-    let in' : c.loop-number.number < length (cues_in c.args.self.now) = omega (arith, c.loop-number-test.true, ap length c.deref-at-items.ensures.value, c.requires.building.growing.spots) in
-    omega (arith, c.from.ensures, c.loop-number.invariant.0.placed c.loop-number.number in', c.loop-number.self.1.1.1.0.ok.0)
-
 pub loop-number-preserved : goal.loop-number-preserved
 loop-number-preserved c =
     let t = c.args.self.now in
@@ -35,11 +30,8 @@ loop-number-preserved c =
       inv.2,
     )
 
-pub returns : goal.returns
-returns c =
+pub returns-clause-ready : goal.returns-clause-ready
+returns-clause-ready c =
     let t = c.args.self.now in
     let inv = c.loop-number.invariant in
-    record {
-      ready = ready (cues_in t) (vec_items c.loop-number.self.1.1.1.0) (vec_items t.heads) c.deref-at-items.result.now c.loop-number.number inv.0 inv.1 (omega (arith, c.loop-number-test.false, ap length c.deref-at-items.ensures.value, c.requires.building.growing.spots)) c.requires.apart;
-      kept = record { signs = refl; cues = refl; nodes = inv.2; heads = refl; places = refl };
-    }
+    ready (cues_in t) (vec_items c.loop-number.self.1.1.1.0) (vec_items t.heads) c.deref-at-items.result.now c.loop-number.number inv.0 inv.1 (omega (arith, c.loop-number-test.false, ap length c.deref-at-items.ensures.value, c.requires.building.growing.spots)) c.requires.apart

@@ -1,13 +1,8 @@
-use Rattle.std.proofs.Common.{vec_items, ap, ◌∙◌, arith}
+use Rattle.std.proofs.Common.{vec_items, ap, ◌∙◌}
 use Rattle.links_theory.proofs.Walks.{standing_entry}
 use Rattle.links.specs.Tables.{cues_in}
 use Rattle.links.proofs.Opened.{opened}
 use Rattle.links.proofs.link_engine.calls.LinkEngineEngine.standing.Goals as goal
-
-pub node-node-requires : goal.node-node-requires
-node-node-requires c =
-    let e = c.args.self.now in
-    omega (arith, (opened e).within, e.table.nodes.ok.0)
 
 pub returns : goal.returns
 returns c =

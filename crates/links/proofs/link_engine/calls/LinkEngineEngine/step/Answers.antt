@@ -1,4 +1,4 @@
-use Rattle.std.proofs.Common.{◌≡◌, ℕ, ◌+◌, ◌-◌, ◌^◌, ◌≤◌, min, length, vec_items, refl, ap, arith}
+use Rattle.std.proofs.Common.{◌≡◌, ℕ, ◌+◌, ◌-◌, ◌^◌, ◌≤◌, min, length, vec_items, ap, arith}
 use Rattle.matching.proofs.Live.{tries_bound}
 use Rattle.links_theory.specs.Entries.{path}
 use Rattle.links.specs.Tables.{cues_in}
@@ -20,17 +20,8 @@ invariant_of-self c =
 counted : (a b n m k : ℕ) → a ≡ min (b + n) (2 ^ 32 - 1) → n + m ≤ k + 2 → a + m ≤ b + k + 2
 counted a b n m k e h = omega (arith, e, h)
 
-kept : (a b n m : ℕ) → a ≡ min (b + n) (2 ^ 32 - 1) → n ≡ m → a ≡ min 4294967295 (b + m)
-kept a b n m e h = omega (arith, e, h)
-
-pub returns : goal.returns
-returns c =
+pub returns-clause-cost : goal.returns-clause-cost
+returns-clause-cost c =
     let e = c.args.self.now in
     let w = c.walk-walk.ensures in
-    let all = c.saturating_add-self.ensures in
-    record {
-      cues = refl;
-      live = w.lives;
-      cost = counted _ e.trials c.walk-walk.result.trials _ _ all (omega (arith, w.counts, ap length w.lives, tries_bound (cues_in e.table) (path (cues_in e.table) (vec_items e.table.nodes) e.at) c.args.sign));
-      trials = kept _ e.trials c.walk-walk.result.trials _ all w.counts;
-    }
+    counted _ e.trials c.walk-walk.result.trials _ _ c.saturating_add-self.ensures (omega (arith, w.counts, ap length w.lives, tries_bound (cues_in e.table) (path (cues_in e.table) (vec_items e.table.nodes) e.at) c.args.sign))
