@@ -1,7 +1,6 @@
 -- How each call leads from one watch to the next, over what the engine means and the account of calls.
-use Rattle.std.proofs.Common.{◌≡◌, ℕ, ◌+◌, ◌<◌, ◌≤◌, true, false, cond, List, [], ◌∷◌, ◌++◌, map, length, get_or, take, drop, Some, None, sym, refl, ap, ◌∙◌, subst, arith}
+use Rattle.std.proofs.Common.{◌≡◌, ℕ, ◌+◌, ◌<◌, ◌≤◌, true, cond, List, [], ◌∷◌, ◌++◌, map, length, get_or, take, drop, None, sym, refl, ap, ◌∙◌, subst, arith}
 use Rattle.std.proofs.lemmas.Bool.{cond_both, le-ltb}
-use Rattle.events.specs.declared.Refusal.{Refusal}
 use Rattle.engine.specs.declared.Engine.{Ghosts}
 use Rattle.engine.specs.Statements.{named, resume_refusal}
 use Rattle.matching.specs.Match.{beginning, live, sightings, standing}
@@ -33,14 +32,8 @@ resume_cues room a c k = cond_both (resumable a.cues c k) (reset a (take k (get_
 resume_granted : (cues : List (List ℕ)) (s : ℕ × ℕ) → resume_refusal cues s ≡ None → resumable cues s.0 s.1 ≡ true
 resume_granted cues s h = grind arith
 
-resume_denied : (cues : List (List ℕ)) (s : ℕ × ℕ) (r : Refusal) → resume_refusal cues s ≡ Some r → resumable cues s.0 s.1 ≡ false
-resume_denied cues s r h = grind arith
-
 load_granted : (room : ℕ) (cs : List (List ℕ)) → load_refused room cs ≡ None → loadable room cs ≡ true
 load_granted room cs h = grind arith
-
-load_denied : (room : ℕ) (cs : List (List ℕ)) (r : Refusal) → load_refused room cs ≡ Some r → loadable room cs ≡ false
-load_denied room cs r h = grind arith
 
 pub not_refused : (room : ℕ) (cs : List (List ℕ)) → total cs ≤ room → few_endings cs cs ≡ true → load_refused room cs ≡ None
 not_refused room cs fits few = grind (arith, le-ltb room (total cs) fits)
@@ -62,15 +55,7 @@ module _ {L : Type 0} (m : Ghosts L) where
         book_cues = subst BookCues (sym (ap (λ b. (cond b (anew cs) (account m.CAPACITY calls)).cues) g)) ok;
       }
 
-  pub not_loaded : (v w : Watch L) (cs : List (List ℕ)) (r : Refusal) → load_refused m.CAPACITY cs ≡ Some r → w.engine ≡ v.engine → w.len ≡ v.len → Leads m v (loads cs) w
-  not_loaded v w cs r why same len calls h =
-      let g = load_denied m.CAPACITY cs r why in
-      record {
-        holds = moved ((keeps calls v h).no_load cs g) (ap m.cues same) (ap m.live same) len (ap m.cost same);
-        book_cues = subst BookCues (sym (ap (λ b. (cond b (anew cs) (account m.CAPACITY calls)).cues) g)) h.book_cues;
-      }
-
-  -- A sign is taken, or refused and nothing changed.
+  -- A sign is taken.
   pub taken : (v w : Watch L) (s : ℕ) → v.len < 9999999 → m.cues w.engine ≡ m.cues v.engine → m.live w.engine ≡ live (m.cues v.engine) (m.live v.engine ++ s ∷ []) →
       m.cost w.engine + length (m.live w.engine) ≤ m.cost v.engine + length (m.live v.engine) + 2 → w.len ≡ v.len + 1 → Leads m v (takes s) w
   taken v w s l same went cheap len calls h =
@@ -78,9 +63,6 @@ module _ {L : Type 0} (m : Ghosts L) where
         holds = moved ((keeps calls v h).step s (m.cost w.engine) l (omega (arith, cheap, ap length went))) same went len refl;
         book_cues = subst BookCues (sym (take_cues m.CAPACITY (account m.CAPACITY calls) s)) h.book_cues;
       }
-
-  pub not_taken : (v : Watch L) (s : ℕ) → 9999999 ≤ v.len → Leads m v (takes s) v
-  not_taken v s l calls h = record { holds = (keeps calls v h).no_step s l; book_cues = subst BookCues (sym (take_cues m.CAPACITY (account m.CAPACITY calls) s)) h.book_cues }
 
   pub restarted : (v w : Watch L) → m.cues w.engine ≡ m.cues v.engine → m.live w.engine ≡ [] → m.cost w.engine ≡ 0 → w.len ≡ 0 → Leads m v restarts w
   restarted v w same none free len calls h = record { holds = moved (keeps calls v h).restart same none len free; book_cues = h.book_cues }
@@ -92,16 +74,6 @@ module _ {L : Type 0} (m : Ghosts L) where
         holds = moved ((keeps calls v h).resume s.0 s.1 (resume_granted (m.cues v.engine) s why)) same went len free;
         book_cues = subst BookCues (sym (resume_cues m.CAPACITY (account m.CAPACITY calls) s.0 s.1)) h.book_cues;
       }
-
-  pub not_resumed : (v w : Watch L) (s : ℕ × ℕ) (r : Refusal) → resume_refusal (m.cues v.engine) s ≡ Some r → w.engine ≡ v.engine → w.len ≡ v.len → Leads m v (resumes s.0 s.1) w
-  not_resumed v w s r why same len calls h =
-      record {
-        holds = moved ((keeps calls v h).no_resume s.0 s.1 (resume_denied (m.cues v.engine) s r why)) (ap m.cues same) (ap m.live same) len (ap m.cost same);
-        book_cues = subst BookCues (sym (resume_cues m.CAPACITY (account m.CAPACITY calls) s.0 s.1)) h.book_cues;
-      }
-
-  pub cues_right : (w : Watch L) → Always m w (λ a. m.cues w.engine ≡ a.cues)
-  cues_right w calls h = h.holds.same_cues
 
   -- The questions answer for the text that counts.
   pub sighted_right : (w : Watch L) → Always m w (λ a. sightings (m.cues w.engine) (m.live w.engine) ≡ seen a)
