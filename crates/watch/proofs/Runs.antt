@@ -5,7 +5,7 @@ use Rattle.engine.specs.declared.Engine.{Ghosts}
 use Rattle.engine.specs.Statements.{named, resume_refusal}
 use Rattle.matching.specs.Match.{beginning, live, sightings, standing}
 use Rattle.matching.specs.Follow.{takable, followed_at, entries, entries_at, ending_at}
-use Rattle.matching.specs.Calls.{Account, Call, Holds, Keeps, account, after, anew, extended, reset, total, few_endings, loadable, resumable, seen, stands, loads, takes, follows, resumes, restarts}
+use Rattle.matching.specs.Calls.{Account, Call, Holds, Keeps, account, after, anew, extended, reset, total, few_endings, loadable, resumable, seen, stands, loads, takes, follows, resumes}
 use Rattle.matching.proofs.Calls.{calls_few, calls_kept, held_right, calls_tell}
 use Rattle.matching.proofs.Follow.{ending_at_lem, entries_at_lem, followed_at_lem}
 use Rattle.matching.proofs.Live.{live_begins}
@@ -42,11 +42,6 @@ module _ {L : Type 0} (m : Ghosts L) where
   keeps : (calls : List Call) (w : Watch L) → After m calls w → Keeps m.CAPACITY (account m.CAPACITY calls) (m.cues w.engine) (m.live w.engine) w.len (m.cost w.engine)
   keeps calls w h = (calls_kept m.CAPACITY).1 _ _ _ _ _ h.holds
 
-  -- A new watch, with the empty book in its engine.
-  pub begun : (w : Watch L) → m.cues w.engine ≡ [] → m.live w.engine ≡ [] → m.cost w.engine ≡ 0 → w.len ≡ 0 → After m [] w
-  begun w none nothing free len =
-      record { holds = moved (calls_kept m.CAPACITY).0 none nothing len free; book_cues = record { some_signs = refl; apart = refl; signs = tt } }
-
   pub loaded : (v w : Watch L) (cs : List (List ℕ)) → BookCues cs → load_refused m.CAPACITY cs ≡ None → m.cues w.engine ≡ cs → m.live w.engine ≡ [] → m.cost w.engine ≡ 0 → w.len ≡ 0 → Leads m v (loads cs) w
   loaded v w cs ok why same none free len calls h =
       let g = load_granted m.CAPACITY cs why in
@@ -63,9 +58,6 @@ module _ {L : Type 0} (m : Ghosts L) where
         holds = moved ((keeps calls v h).step s (m.cost w.engine) l (omega (arith, cheap, ap length went))) same went len refl;
         book_cues = subst BookCues (sym (take_cues m.CAPACITY (account m.CAPACITY calls) s)) h.book_cues;
       }
-
-  pub restarted : (v w : Watch L) → m.cues w.engine ≡ m.cues v.engine → m.live w.engine ≡ [] → m.cost w.engine ≡ 0 → w.len ≡ 0 → Leads m v restarts w
-  restarted v w same none free len calls h = record { holds = moved (keeps calls v h).restart same none len free; book_cues = h.book_cues }
 
   pub resumed : (v w : Watch L) (s : ℕ × ℕ) → resume_refusal (m.cues v.engine) s ≡ None → m.cues w.engine ≡ m.cues v.engine → m.live w.engine ≡ named (m.cues v.engine) s → m.cost w.engine ≡ 0 → w.len ≡ s.1 →
       Leads m v (resumes s.0 s.1) w
