@@ -1,12 +1,11 @@
 -- How each call leads from one watch to the next, over what the engine means and the account of calls.
-use Rattle.std.proofs.Common.{◌≡◌, ℕ, ◌+◌, ◌<◌, ◌≤◌, true, false, cond, List, [], ◌∷◌, ◌++◌, map, length, get_or, take, drop, Some, None, sym, refl, ap, ◌∙◌, subst, arith}
+use Rattle.std.proofs.Common.{◌≡◌, ℕ, ◌+◌, ◌<◌, ◌≤◌, true, cond, List, [], ◌∷◌, ◌++◌, map, length, get_or, take, drop, None, sym, refl, ap, ◌∙◌, subst, arith}
 use Rattle.std.proofs.lemmas.Bool.{cond_both, le-ltb}
-use Rattle.events.specs.declared.Refusal.{Refusal}
 use Rattle.engine.specs.declared.Engine.{Ghosts}
 use Rattle.engine.specs.Statements.{named, resume_refusal}
 use Rattle.matching.specs.Match.{beginning, live, sightings, standing}
 use Rattle.matching.specs.Follow.{takable, followed_at, entries, entries_at, ending_at}
-use Rattle.matching.specs.Calls.{Account, Call, Holds, Keeps, account, after, anew, extended, reset, total, few_endings, loadable, resumable, seen, stands, loads, takes, follows, resumes, restarts}
+use Rattle.matching.specs.Calls.{Account, Call, Holds, Keeps, account, after, anew, extended, reset, total, few_endings, loadable, resumable, seen, stands, loads, takes, follows, resumes}
 use Rattle.matching.proofs.Calls.{calls_few, calls_kept, held_right, calls_tell}
 use Rattle.matching.proofs.Follow.{ending_at_lem, entries_at_lem, followed_at_lem}
 use Rattle.matching.proofs.Live.{live_begins}
@@ -33,14 +32,8 @@ resume_cues room a c k = cond_both (resumable a.cues c k) (reset a (take k (get_
 resume_granted : (cues : List (List ℕ)) (s : ℕ × ℕ) → resume_refusal cues s ≡ None → resumable cues s.0 s.1 ≡ true
 resume_granted cues s h = grind arith
 
-resume_denied : (cues : List (List ℕ)) (s : ℕ × ℕ) (r : Refusal) → resume_refusal cues s ≡ Some r → resumable cues s.0 s.1 ≡ false
-resume_denied cues s r h = grind arith
-
 load_granted : (room : ℕ) (cs : List (List ℕ)) → load_refused room cs ≡ None → loadable room cs ≡ true
 load_granted room cs h = grind arith
-
-load_denied : (room : ℕ) (cs : List (List ℕ)) (r : Refusal) → load_refused room cs ≡ Some r → loadable room cs ≡ false
-load_denied room cs r h = grind arith
 
 pub not_refused : (room : ℕ) (cs : List (List ℕ)) → total cs ≤ room → few_endings cs cs ≡ true → load_refused room cs ≡ None
 not_refused room cs fits few = grind (arith, le-ltb room (total cs) fits)
@@ -48,11 +41,6 @@ not_refused room cs fits few = grind (arith, le-ltb room (total cs) fits)
 module _ {L : Type 0} (m : Ghosts L) where
   keeps : (calls : List Call) (w : Watch L) → After m calls w → Keeps m.CAPACITY (account m.CAPACITY calls) (m.cues w.engine) (m.live w.engine) w.len (m.cost w.engine)
   keeps calls w h = (calls_kept m.CAPACITY).1 _ _ _ _ _ h.holds
-
-  -- A new watch, with the empty book in its engine.
-  pub begun : (w : Watch L) → m.cues w.engine ≡ [] → m.live w.engine ≡ [] → m.cost w.engine ≡ 0 → w.len ≡ 0 → After m [] w
-  begun w none nothing free len =
-      record { holds = moved (calls_kept m.CAPACITY).0 none nothing len free; book_cues = record { some_signs = refl; apart = refl; signs = tt } }
 
   pub loaded : (v w : Watch L) (cs : List (List ℕ)) → BookCues cs → load_refused m.CAPACITY cs ≡ None → m.cues w.engine ≡ cs → m.live w.engine ≡ [] → m.cost w.engine ≡ 0 → w.len ≡ 0 → Leads m v (loads cs) w
   loaded v w cs ok why same none free len calls h =
@@ -62,15 +50,7 @@ module _ {L : Type 0} (m : Ghosts L) where
         book_cues = subst BookCues (sym (ap (λ b. (cond b (anew cs) (account m.CAPACITY calls)).cues) g)) ok;
       }
 
-  pub not_loaded : (v w : Watch L) (cs : List (List ℕ)) (r : Refusal) → load_refused m.CAPACITY cs ≡ Some r → w.engine ≡ v.engine → w.len ≡ v.len → Leads m v (loads cs) w
-  not_loaded v w cs r why same len calls h =
-      let g = load_denied m.CAPACITY cs r why in
-      record {
-        holds = moved ((keeps calls v h).no_load cs g) (ap m.cues same) (ap m.live same) len (ap m.cost same);
-        book_cues = subst BookCues (sym (ap (λ b. (cond b (anew cs) (account m.CAPACITY calls)).cues) g)) h.book_cues;
-      }
-
-  -- A sign is taken, or refused and nothing changed.
+  -- A sign is taken.
   pub taken : (v w : Watch L) (s : ℕ) → v.len < 9999999 → m.cues w.engine ≡ m.cues v.engine → m.live w.engine ≡ live (m.cues v.engine) (m.live v.engine ++ s ∷ []) →
       m.cost w.engine + length (m.live w.engine) ≤ m.cost v.engine + length (m.live v.engine) + 2 → w.len ≡ v.len + 1 → Leads m v (takes s) w
   taken v w s l same went cheap len calls h =
@@ -79,12 +59,6 @@ module _ {L : Type 0} (m : Ghosts L) where
         book_cues = subst BookCues (sym (take_cues m.CAPACITY (account m.CAPACITY calls) s)) h.book_cues;
       }
 
-  pub not_taken : (v : Watch L) (s : ℕ) → 9999999 ≤ v.len → Leads m v (takes s) v
-  not_taken v s l calls h = record { holds = (keeps calls v h).no_step s l; book_cues = subst BookCues (sym (take_cues m.CAPACITY (account m.CAPACITY calls) s)) h.book_cues }
-
-  pub restarted : (v w : Watch L) → m.cues w.engine ≡ m.cues v.engine → m.live w.engine ≡ [] → m.cost w.engine ≡ 0 → w.len ≡ 0 → Leads m v restarts w
-  restarted v w same none free len calls h = record { holds = moved (keeps calls v h).restart same none len free; book_cues = h.book_cues }
-
   pub resumed : (v w : Watch L) (s : ℕ × ℕ) → resume_refusal (m.cues v.engine) s ≡ None → m.cues w.engine ≡ m.cues v.engine → m.live w.engine ≡ named (m.cues v.engine) s → m.cost w.engine ≡ 0 → w.len ≡ s.1 →
       Leads m v (resumes s.0 s.1) w
   resumed v w s why same went free len calls h =
@@ -92,16 +66,6 @@ module _ {L : Type 0} (m : Ghosts L) where
         holds = moved ((keeps calls v h).resume s.0 s.1 (resume_granted (m.cues v.engine) s why)) same went len free;
         book_cues = subst BookCues (sym (resume_cues m.CAPACITY (account m.CAPACITY calls) s.0 s.1)) h.book_cues;
       }
-
-  pub not_resumed : (v w : Watch L) (s : ℕ × ℕ) (r : Refusal) → resume_refusal (m.cues v.engine) s ≡ Some r → w.engine ≡ v.engine → w.len ≡ v.len → Leads m v (resumes s.0 s.1) w
-  not_resumed v w s r why same len calls h =
-      record {
-        holds = moved ((keeps calls v h).no_resume s.0 s.1 (resume_denied (m.cues v.engine) s r why)) (ap m.cues same) (ap m.live same) len (ap m.cost same);
-        book_cues = subst BookCues (sym (resume_cues m.CAPACITY (account m.CAPACITY calls) s.0 s.1)) h.book_cues;
-      }
-
-  pub cues_right : (w : Watch L) → Always m w (λ a. m.cues w.engine ≡ a.cues)
-  cues_right w calls h = h.holds.same_cues
 
   -- The questions answer for the text that counts.
   pub sighted_right : (w : Watch L) → Always m w (λ a. sightings (m.cues w.engine) (m.live w.engine) ≡ seen a)

@@ -3,6 +3,7 @@
 ghost use Rattle.std.specs.Prelude.{◌≡◌, ◌+◌, ◌<◌, ◌≤◌, [], ◌∷◌, ◌++◌, length};
 ghost use Rattle.book.specs.Held.{book_held, lookup, lookups};
 ghost use Rattle.matching.specs.Calls.{follows};
+ghost use Rattle.matching.specs.Follow.{longest_text};
 ghost use Rattle.matching.specs.Match.{live as live_of};
 ghost use Rattle.watch.specs.After.{Always, Leads};
 ghost use Rattle.watch.specs.Following.{FollowAnswer, LoadedEvents, obstacle, WroteFirst};
@@ -33,7 +34,7 @@ fn write_sightings<L: Engine>(engine: &L, place: u32, free: &mut [Entry]) -> usi
 impl<L: Engine> Watch<L> {
     // Takes one event and writes its sightings to the front of the free entries; how many it wrote.
     fn follow_one<E: Event>(&mut self, book: &Book<E>, event: &E, free: &mut [Entry]) -> usize
-        requires { self.old.len < 9999999 }
+        requires { self.old.len < longest_text }
         ensures cues { L.Engine.cues self.new.engine ≡ L.Engine.cues self.old.engine }
         ensures live { L.Engine.live self.new.engine ≡ live_of (L.Engine.cues self.old.engine) (L.Engine.live self.old.engine ++ lookup E.Event.same (book_held book.now) event.now ∷ []) }
         ensures cost { L.Engine.cost self.new.engine + length (L.Engine.live self.new.engine) ≤ L.Engine.cost self.old.engine + length (L.Engine.live self.old.engine) + 2 }
