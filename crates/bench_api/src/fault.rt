@@ -32,8 +32,8 @@ impl Fault {
 impl fmt::Display for Fault {
     fn fmt<W: fmt::Write>(&self, f: &mut fmt::Formatter<W>) -> fmt::Result {
         match self {
-            Fault::Refused(refusal) => write!(f, "refused, number {}", refusal.number()),
-            Fault::NoMemory => write!(f, "out of memory"),
+            Fault::Refused(refusal) => write!(f, "{refusal}"),
+            Fault::NoMemory => f.write_str("out of memory"),
         }
     }
 }

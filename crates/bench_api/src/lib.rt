@@ -63,11 +63,7 @@ pub fn bench_follow(heap: Global, cues: Cues<'_>, text: &[Number]) -> Result<Tal
     let book = cues.book(heap)?;
     let mut watch = Watch::new(heap, LinkEngine::new(heap)?);
     watch.load(&book)?;
-    let mut entries = [Entry {
-        place: 0,
-        cue: 0,
-        len: 0,
-    }; ENTRIES];
+    let mut entries = [Entry::default(); ENTRIES];
     Ok(follow_rounds(&mut watch, &book, text, &mut entries))
 }
 

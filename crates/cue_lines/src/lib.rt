@@ -1,17 +1,15 @@
-// Reading the cue lines at the front of an input, and the limit on an input.
+// Reading the cue lines at the front of an input.
 
 #![tactic(auto)]
 
-mod limit;
 mod reading;
 mod row;
 
-pub use limit::{is_long, refuse_long};
 pub use reading::read_cues;
 
 #[cfg(test)]
 mod tests {
-    use crate::{is_long, read_cues, refuse_long};
+    use crate::read_cues;
     use events::Refusal;
     use script::Cues;
     use std::test::Fail;
@@ -38,14 +36,6 @@ mod tests {
         assert!(rt; matches!(behind, Err(Refusal::Misnumbered)));
         let none = read_cues(&mut cues, b"")?;
         assert!(rt; matches!(none, Err(Refusal::Unreadable { column: 0 })));
-        Ok(())
-    }
-
-    #[test]
-    fn limit(rt: HostRuntime) -> Result<(), Fail> {
-        assert!(rt; !is_long(b"\n"));
-        let out = refuse_long(rt.alloc())?;
-        assert_eq!(rt; out.as_slice(), b"15       0\n".as_slice());
         Ok(())
     }
 }

@@ -5,10 +5,8 @@ ghost use Rattle.links_theory.specs.Entries.{linked, new_node, node_at, path, sl
 ghost use Rattle.links.specs.Tables.{Building, cues_in, GrowingIn, Kept};
 
 use crate::table::{Table, slot};
+use book::limits::CUE_EVENTS;
 use links_theory::Node;
-
-// The greatest length of a cue.
-const LEVELS: usize = 32;
 
 impl Table {
     // Sets the link of one entry.
@@ -105,7 +103,7 @@ impl Table {
         ensures building { Building self.new 32 0 }
         ensures kept { Kept self.old self.new }
     {
-        for k in 0..LEVELS {
+        for k in 0..CUE_EVENTS {
             self.level(k);
         }
     }

@@ -9,6 +9,7 @@ use crate::link_engine::LinkEngine;
 use crate::lists::{fill, refill};
 use crate::table::{SLOTS, Table};
 use book::Cue;
+use book::limits::{CUES, MATERIAL};
 use engine::Engine;
 use links_theory::Node;
 use std::alloc::{AllocError, Global};
@@ -22,10 +23,6 @@ const ROOT: Node = Node {
     len: 0,
     whole: None,
 };
-
-const MATERIAL: usize = 2048;
-
-const CUES: usize = 128;
 
 // One entry for each sign of the cues at most, and the root.
 const NODES: usize = LinkEngine::CAPACITY + 1;

@@ -3,10 +3,9 @@
 #![tactic(auto)]
 
 mod booking;
-mod limit;
 mod listing;
 mod refusing;
 mod whole;
 
-pub use limit::{is_long, refuse_long};
+pub use script::{is_long, refuse_long};
 pub use whole::{report, report_input};

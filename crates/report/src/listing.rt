@@ -78,10 +78,6 @@ pub(crate) fn list_runs<E: Event>(
     ensures { IfOk result (λ n. Wrote (cue_signs (book_held book.now)) (lookups E.Event.same (book_held book.now) text.now) out.old.items out.new.items n) }
 {
     let mut watch = load_book(heap, book)?;
-    let mut entries = [Entry {
-        place: 0,
-        cue: 0,
-        len: 0,
-    }; ENTRIES];
+    let mut entries = [Entry::default(); ENTRIES];
     follow_all(out, &mut watch, book, text, &mut entries)
 }

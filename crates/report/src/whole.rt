@@ -6,13 +6,12 @@ ghost use Rattle.script.specs.Report.{contents_of, last_line, report_of};
 ghost use Rattle.script.specs.Told.{ReportedOnce};
 
 use crate::booking::{book_cues, lines_of};
-use crate::limit::{is_long, refuse_long};
 use crate::listing::list_runs;
 use crate::refusing::{refusal_text, refuse};
 use book::Draft;
 use columns::total_line;
 use events::{Event, Refusal};
-use script::{Layout, Script};
+use script::{Layout, Script, is_long, refuse_long};
 use std::alloc::{AllocError, Global};
 
 // Writes the totals, or why the line behind the text's events is refused.

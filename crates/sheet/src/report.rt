@@ -12,9 +12,9 @@ ghost use Rattle.sheet.specs.Rows.{sheet_of};
 use crate::listing::list_cues;
 use book::Draft;
 use columns::{AsRun, refusal_line, total_line};
-use cue_lines::{is_long, read_cues, refuse_long};
+use cue_lines::read_cues;
 use events::Refusal;
-use script::Cues;
+use script::{Cues, is_long, refuse_long};
 use std::alloc::{AllocError, Global};
 
 // Writes the totals of the book, or why a line is refused.

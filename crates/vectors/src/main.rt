@@ -48,7 +48,7 @@ impl fmt::Display for Reading<'_> {
         let Some(event) = line.event() else {
             return writeln!(f, "no event");
         };
-        let (kind, cart) = (char::from(event.kind().letter()), event.cart());
+        let (kind, cart) = (event.kind(), event.cart());
         match line.cue_number() {
             Some(number) => writeln!(f, "cue {number} {kind} {cart}"),
             None => writeln!(f, "log {} {kind} {cart}", event.second()),

@@ -100,12 +100,7 @@ impl<L: Engine> Desk<L> {
 
     fn follow(&mut self, words: &[u8], out: &mut String) -> Result<(), AllocError> {
         let (count, text) = two_words(words);
-        let blank = Entry {
-            place: 0,
-            cue: 0,
-            len: 0,
-        };
-        let mut entries = vec![in *out.allocator(); blank; low_20(count)]?;
+        let mut entries = vec![in *out.allocator(); Entry::default(); low_20(count)]?;
         let done = self.watch.follow(&self.book, text, entries.as_mut_slice());
         writeln!(
             out,
