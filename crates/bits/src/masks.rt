@@ -8,6 +8,7 @@ use std::alloc::{AllocError, Global};
 
 // The mask of a sign has a bit for each place where the sign stands. It is kept in two tables, by the
 // low and by the high byte of the sign: the mask is what both have.
+// Two fields and no type of their own: what a table holds is said of the signs, which both share.
 #[derive(Drop)]
 pub(crate) struct Masks {
     signs: Vec<u16>,

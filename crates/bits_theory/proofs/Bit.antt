@@ -1,5 +1,5 @@
 -- The bits of `and`, `or`, a shift and a single bit.
-use Rattle.std.proofs.Common.{◌≡◌, ℕ, zero, suc, ◌+◌, ◌-◌, ◌*◌, ◌/◌, ◌%◌, ◌^◌, ◌<◌, false, ◌&&◌, ◌||◌, eqb, List, [], ◌∷◌, ◌++◌, length, get_or, set, sym, refl, ap, ◌∙◌, ap₂, ⊎_elim, mod-lt, pow-suc, div-add-mod', div-one, mul-div_cancel, arith, pow_pos, pow-add}
+use Rattle.std.proofs.Common.{◌≡◌, ℕ, zero, suc, ◌+◌, ◌-◌, ◌*◌, ◌/◌, ◌%◌, ◌^◌, ◌<◌, false, ◌&&◌, ◌||◌, eqb, List, [], ◌∷◌, ◌++◌, length, get_or, set, sym, refl, ap, ◌∙◌, ap₂, ⊎_elim, mod-lt, pow-suc, div-add-mod', mul-div_cancel, arith, pow_pos, pow-add}
 use native.Mathlib.Nat.{mul-mod_left, div-div-eq-div-mul, div-eq_of_lt, div_self, pow-succ'}
 use lib.Bits.{bit_and, bit_or, and_shr, and_mod, or_shr, or_mod, and_mask}
 use lib.Pow.{pow-lt, mod-mod-pow}
@@ -43,14 +43,7 @@ pub bit_zero : (p : ℕ) → bit 0 p ≡ false
 unfolding bit
 bit_zero p = ap (λ x. eqb (x % 2) 1) (div-eq_of_lt (pow_pos p))
 
--- A shift by one drops the highest place and clears the lowest.
-pub bit_shift_lowest : (a : ℕ) → bit (a * 2 % 2 ^ 64) 0 ≡ false
-unfolding bit
-bit_shift_lowest a =
-    let whole : a * 2 % 2 ^ 64 / 1 ≡ a * 2 % 2 ^ 64 = div-one (a * 2 % 2 ^ 64) in
-    let even : a * 2 % 2 ^ 64 % 2 ≡ 0 = mod-mod-pow (a * 2) 63 1 ∙ mul-mod_left a 2 in
-    ap (λ x. eqb x 1) (ap (λ x. x % 2) whole ∙ even)
-
+-- A shift by one moves each bit up by a place.
 pub bit_shift : (a p : ℕ) → suc p < 64 → bit (a * 2 % 2 ^ 64) (suc p) ≡ bit a p
 unfolding bit
 bit_shift a p h =

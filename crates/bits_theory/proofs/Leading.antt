@@ -1,7 +1,7 @@
 -- The standing, read off the bits: the lowest cue with the longest front whose bit is set.
-use Rattle.std.proofs.Common.{◌≡◌, ℕ, zero, suc, ◌+◌, ◌<◌, ◌≤◌, true, false, List, [], ◌∷◌, length, get_or, take, sym, refl, ap, ◌∙◌, subst, ap₂, ⊎_elim, arith}
+use Rattle.std.proofs.Common.{◌≡◌, ℕ, zero, suc, ◌<◌, ◌≤◌, true, false, List, [], ◌∷◌, length, get_or, take, sym, refl, ◌∙◌, subst, ap₂, ⊎_elim, arith}
 use Rattle.std.proofs.lemmas.List.{length-map, length-take}
-use Rattle.std.proofs.lemmas.Bool.{cases_Bool, cases_lt}
+use Rattle.std.proofs.lemmas.Bool.{cases_Bool}
 use Rattle.book.specs.Cues.{part_of, parts_of}
 use Rattle.book.specs.declared.cue.Cue.{Cue}
 use Rattle.matching.specs.Match.{begins, beginning, lowest, ends, standing}
@@ -18,28 +18,6 @@ pub record Lead (state : ℕ) (spans : List Cue) (done number len : ℕ) : Type 
   pub found : 0 < len → (number < done) × (top state (span_at spans number).place (span_at spans number).len ≡ len)
   pub lower : (n : ℕ) → n < number → top state (span_at spans n).place (span_at spans n).len < len
   pub most : (n : ℕ) → n < done → top state (span_at spans n).place (span_at spans n).len ≤ len
-
-pub lead_start : (state : ℕ) (spans : List Cue) → Lead state spans 0 0 0
-lead_start state spans =
-    record { none = λ e. refl; found = λ p. absurd (omega arith); lower = λ n l. absurd (omega arith); most = λ n l. absurd (omega arith) }
-
-pub lead_take : (state : ℕ) (spans : List Cue) (i number len new : ℕ) → Lead state spans i number len → top state (span_at spans i).place (span_at spans i).len ≡ new → len < new → Lead state spans (i + 1) i new
-lead_take state spans i number len new lead e l =
-    record {
-      none = λ z. absurd (omega arith);
-      found = λ p. (omega arith, e);
-      lower = λ n h. omega (arith, lead.most n h);
-      most = λ n h. ⊎_elim (λ (q : n < i). omega (arith, lead.most n q)) (λ (q : i ≤ n). let same_place : n ≡ i = omega arith in omega (arith, ap (λ j. top state (span_at spans j).place (span_at spans j).len) same_place, e)) (cases_lt n i);
-    }
-
-pub lead_keep : (state : ℕ) (spans : List Cue) (i number len new : ℕ) → Lead state spans i number len → top state (span_at spans i).place (span_at spans i).len ≡ new → new ≤ len → Lead state spans (i + 1) number len
-lead_keep state spans i number len new lead e l =
-    record {
-      none = lead.none;
-      found = λ p. let f = lead.found p in (omega (arith, f.0), f.1);
-      lower = lead.lower;
-      most = λ n h. ⊎_elim (λ (q : n < i). lead.most n q) (λ (q : i ≤ n). let same_place : n ≡ i = omega arith in omega (arith, ap (λ j. top state (span_at spans j).place (span_at spans j).len) same_place, e)) (cases_lt n i);
-    }
 
 pub lead_small : (state : ℕ) (signs : List ℕ) (spans : List Cue) (done number len : ℕ) → Spanned (length signs) spans → done ≤ length spans → Lead state spans done number len → (len ≤ length signs) × (number ≤ length spans)
 lead_small state signs spans done number zero all h lead = (omega arith, omega (arith, lead.none refl))

@@ -1,7 +1,6 @@
 -- The sightings one by one, each the longest cue below a length that ends the text.
-use Rattle.std.proofs.Common.{◌≡◌, ℕ, zero, suc, ◌+◌, ◌-◌, ◌<◌, ◌≤◌, true, false, List, [], ◌∷◌, length, get_or, Some, None, sym, refl, ap, ◌∙◌, ⊎_elim, arith, length-append}
+use Rattle.std.proofs.Common.{◌≡◌, ℕ, zero, suc, ◌+◌, ◌<◌, ◌≤◌, true, false, List, [], ◌∷◌, length, get_or, sym, refl, ap, ◌∙◌, ⊎_elim, arith, length-append}
 use Rattle.std.proofs.lemmas.Bool.{cases_Bool, cases_lt, cases_eq, or_cases, lt-ltb, le-ltb}
-use Rattle.engine.specs.Statements.{ith}
 use Rattle.matching.specs.Match.{same, ends, exact, sightings, listed, distinct}
 use Rattle.matching.proofs.Sightings.{same_is, same_itself, exact_unlisted}
 use Rattle.matching.proofs.Endings.{ends_true}
@@ -96,21 +95,3 @@ sightings_count cues [] some =
     sym (no_endings cues [] (λ n l. ⊎_elim (λ (e : ends (get_or cues n []) [] ≡ true). absurd (omega (arith, some n l, ends_length (get_or cues n []) [] e))) (λ (e : ends (get_or cues n []) [] ≡ false). e) (cases_Bool (ends (get_or cues n []) []))))
 sightings_count cues (x ∷ t) some =
     length-append (exact 0 cues (x ∷ t)) (sightings cues t) ∙ omega (arith, endings_split 0 cues x t, sightings_count cues t some)
-
--- The sightings counted from 1.
-pub ith_none : (i : ℕ) → ith i [] ≡ None
-ith_none zero = refl
-ith_none (suc i) = grind arith
-
-pub ith_first : (s : ℕ × ℕ) (rest : List (ℕ × ℕ)) → ith 1 (s ∷ rest) ≡ Some s
-ith_first s rest = grind arith
-
-get_d_next : (s d : ℕ × ℕ) (rest : List (ℕ × ℕ)) (i : ℕ) → 0 < i → get_or (s ∷ rest) i d ≡ get_or rest (i - 1) d
-get_d_next s d rest zero h = absurd (omega arith)
-get_d_next s d rest (suc i) h = ap (λ j. get_or rest j d) (omega arith)
-
-pub ith_next : (i : ℕ) (s : ℕ × ℕ) (rest : List (ℕ × ℕ)) → 0 < i → ith (i + 1) (s ∷ rest) ≡ ith i rest
-ith_next i s rest h =
-    let e : i + 1 - 1 ≡ i = omega arith in
-    let g : get_or (s ∷ rest) (i + 1 - 1) (0, 0) ≡ get_or rest (i - 1) (0, 0) = ap (λ j. get_or (s ∷ rest) j (0, 0)) e ∙ get_d_next s (0, 0) rest i h in
-    grind (arith, g)

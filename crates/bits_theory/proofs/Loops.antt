@@ -1,4 +1,4 @@
--- The steps of the engine's scans over its cues.
+-- What the engine's searches over its cues find.
 use Rattle.std.proofs.Common.{◌≡◌, ℕ, suc, ◌+◌, ◌-◌, ◌<◌, ◌≤◌, Bool, true, false, cond, ◌&&◌, List, [], ◌∷◌, length, get_or, count_by, None, Some, sym, refl, ap, ap₂, ◌∙◌, arith}
 use lib.Bits.{bit_and}
 use Rattle.std.specs.List.{All}
