@@ -4,7 +4,7 @@ use Rattle.book.specs.Cues.{AllWithin, parts_of}
 use Rattle.book.specs.declared.cue.Cue.{Cue}
 use Rattle.matching.specs.Calls.{total}
 use Rattle.matching.specs.Match.{distinct, sightings}
-use Rattle.links_theory.specs.Entries.{path, Sound, Growing, done, Marked, Ready}
+use Rattle.links_theory.specs.Entries.{path, Sound, Growing, done, Ready}
 use Rattle.links.specs.declared.table.Table.{Table}
 
 -- the cues of a table
@@ -37,9 +37,6 @@ pub record Building (t : Table) (k i : ℕ) : Type 0 where
   pub within : AllWithin (length (vec_items t.signs)) (vec_items t.cues)
   pub numbers : length (vec_items t.cues) ≤ 128
   pub room : 1025 ≤ vec_capacity t.nodes
-
-abbrev pub MarkedIn : Table → ℕ → Type 0
-MarkedIn t i = Marked (cues_in t) (vec_items t.nodes) i
 
 abbrev pub ReadyIn : Table → ℕ → Type 0
 ReadyIn t at = Ready (cues_in t) (vec_items t.nodes) (vec_items t.heads) at
