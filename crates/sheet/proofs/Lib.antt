@@ -1,3 +1,4 @@
 mod Listed
 mod Reading
+mod Starts
 mod Values

@@ -12,6 +12,7 @@ use crate::link_engine::LinkEngine;
 use crate::queries::Sightings;
 use crate::table::Table;
 use book::Book;
+use book::limits::BOOK_EVENTS;
 use engine::Engine;
 use events::{Event, Refusal};
 use std::alloc::{AllocError, Global};
@@ -98,7 +99,7 @@ impl LinkEngine {
 }
 
 impl Engine for LinkEngine {
-    const CAPACITY: usize = 1024;
+    const CAPACITY: usize = BOOK_EVENTS;
 
     ghost CAPACITY = { 1024 };
 
