@@ -23,6 +23,7 @@ fn make_book(heap: Global, dice: &mut Dice, cues: usize, most: u64) -> Result<Bo
     let letters = (0..MATERIAL).map(|_| dice.roll_letter()).collect(heap)?;
     let mut draft = Draft::begin(heap, letters)?;
     let mut place = 0usize;
+    // Repeated, with no index: a cue that is refused takes its place all the same.
     for _ in 0..cues {
         let len = (dice.roll(most) as usize).wrapping_add(2);
         let _ = draft.add(place, len);

@@ -18,7 +18,7 @@ pub enum Fault {
 }
 
 impl Fault {
-    // The status of this fault: the refusal's number, or 255 for want of memory.
+    // The status of this fault, for C: the refusal's number, or 255 for want of memory.
     pub fn status(&self) -> u64
         ensures { result ≡ status_of self.now }
     {

@@ -18,7 +18,7 @@ use links::LinkEngine;
 use std::alloc::Global;
 use watch::Watch;
 
-// How many entries one round of following has room for.
+// How many entries one round of following has room for; each caller of follow chooses for itself.
 const ENTRIES: usize = 512;
 
 // The link engine alone: one step for each sign, and the sightings after each.
@@ -47,7 +47,8 @@ fn follow_rounds(
     let mut rest = text;
     while !rest.is_empty() {
         let followed = watch.follow(book, rest, entries);
-        for entry in entries.iter().take(followed.written) {
+        let written = entries.get(..followed.written).unwrap_or(&[]);
+        for entry in written {
             tally.count(u64::from(entry.place), entry.cue, entry.len);
         }
         match rest.get(followed.taken..) {

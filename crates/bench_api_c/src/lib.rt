@@ -56,7 +56,7 @@ pub extern "C" fn bench_follow(
 }
 
 // Writes the signs of the events under the book, for `bench_step`, as far as there is room. The answer is
-// a status.
+// a status, since C has no Result.
 #[unsafe(no_mangle)]
 pub extern "C" fn bench_signs(
     heap: Global,

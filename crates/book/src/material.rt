@@ -1,4 +1,5 @@
-// The material: events, at most 2,048, and the sign of each.
+// The material: events, at most 2,048, and the sign of each. They are two lists, since callers are handed each
+// as a slice.
 
 ghost use Rattle.std.specs.Prelude.{◌≡◌, ℕ, ◌≤◌, vec_len, slice_index};
 

@@ -20,7 +20,8 @@ pub enum Kind {
 pub struct UnknownLetter(pub u8);
 
 impl Kind {
-    // The letter of this kind in a line.
+    // The letter of this kind in a line, as the byte that a field holds. A method and no `From`: the name says
+    // what the byte is.
     pub fn letter(&self) -> u8
         ensures { result ≡ letter_of self.now }
     {

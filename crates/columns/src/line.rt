@@ -24,7 +24,7 @@ pub enum Section {
     Log,
 }
 
-// A line by its fields.
+// A line by its fields. A cue line and a log line differ in what stands first, and each case names it.
 #[derive(Clone, Copy, PartialEq, Eq, Debug)]
 pub enum Line<'a> {
     Cue {

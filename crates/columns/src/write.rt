@@ -31,6 +31,8 @@ fn write_digits(field: &mut [u8], n: u64) -> bool
     write_digits(front, n / 10)
 }
 
+// Each kind of line has its own fields: a table of them would be no shorter than these calls.
+
 // A sighting: place 1 to 7, blank, cue 9 to 12, blank, length 14 to 15.
 pub fn entry_line(place: u64, cue: u64, len: u64) -> [u8; 16]
     ensures { result ≡ entry_line place cue len }

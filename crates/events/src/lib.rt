@@ -76,7 +76,8 @@ pub enum Refusal {
 }
 
 impl Refusal {
-    // The number of this refusal in the table that operators read.
+    // The number of this refusal in the table that operators read. A method and no `From`: `u8::from(refusal)`
+    // would not say which number it is.
     pub fn number(&self) -> u8
         ensures { result ≡ number_of self.now }
     {

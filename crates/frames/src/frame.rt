@@ -11,7 +11,8 @@ const LENGTHS: u32 = 10_000_000;
 
 const HEADER: usize = 10;
 
-// A frame: the letter that says what it is, and its payload.
+// A frame: the letter that says what it is, and its payload. A letter and no enum: each program has kinds
+// of its own.
 #[derive(Clone, Copy)]
 pub struct Frame<'a> {
     pub letter: u8,

@@ -33,7 +33,8 @@ pub(crate) struct Walk {
     pub(crate) trials: u32,
 }
 
-// The chain of a child.
+// The chain of a child. A parent and a sign are two numbers here and below, as an entry and the definitions
+// have them: a struct of the two would be taken apart wherever it is handed in.
 pub(crate) fn slot(parent: u16, sign: u16) -> usize
     ensures value { result ≡ slot_of parent sign }
     ensures small { result < 1024 }

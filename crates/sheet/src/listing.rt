@@ -14,6 +14,9 @@ use columns::{AsRun, entry_line};
 use events::Refusal;
 use std::alloc::{AllocError, Global};
 
+// The reports of the other programs add cues in the same way, but write nothing for a cue that is granted, and
+// so cannot want memory: one function for both would need a closure and its state in each contract.
+//
 // Adds cues of these lengths, one behind the other, and writes a line for each. It ends at the first
 // that is refused, and answers the refusal with the number of that cue's last line.
 pub(crate) fn list_cues(

@@ -65,7 +65,8 @@ impl<L: Engine> Desk<L> {
         self.watch.engine()
     }
 
-    // One call or question.
+    // One call or question, of these words, answered behind what stands in `out`: as with `fmt`, what is asked
+    // and where it is written are two parameters.
     pub(crate) fn answer(
         &mut self,
         call: Call,
