@@ -4,5 +4,10 @@
 #![tactic(auto)]
 
 fn main(rt: HostRuntime) -> anyhow::Result<()> {
-    filter_program::run(rt.alloc(), rt.stdin(), &mut rt.stdout(), |heap, input| airing_report::airings_report(heap, input))
+    filter_program::run(
+        rt.alloc(),
+        rt.stdin(),
+        &mut rt.stdout(),
+        |heap, input| airing_report::airings_report(heap, input),
+    )
 }
