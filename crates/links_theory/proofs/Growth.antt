@@ -7,7 +7,7 @@ use Rattle.matching.specs.Calls.{total}
 use Rattle.matching.proofs.Live.{begins_append, begins_take, lowest_is}
 use Rattle.links_theory.specs.declared.Node.{Node}
 use Rattle.links_theory.specs.Entries.{root_node, node_at, new_node, linked, path_of, path, slot_of, Entry, Sound, Found, Growing, reach, done}
-use Rattle.links_theory.proofs.Paths.{path_is, path_empty, path_length, child_path, child_fresh}
+use Rattle.links_theory.proofs.Paths.{path_is, path_empty, path_length, child_fresh}
 
 pub slot_small : (parent sign : ℕ) → slot_of parent sign < 1024
 unfolding slot_of
@@ -219,10 +219,6 @@ module _ (cues : List (List ℕ)) (nodes : List Node) (heads places : List ℕ) 
   pub next_path : path cues nodes parent ++ sign ∷ [] ≡ take (k + 1) (get_or cues i [])
   next_path =
       ap (λ b. b ++ sign ∷ []) parent_path ∙ ap (λ x. take k (get_or cues i []) ++ x ∷ []) is-sign ∙ sym (take_more (get_or cues i []) k 0 h)
-
-  -- the child that is there already
-  pub found_path : (r : ℕ) → Found nodes parent sign r → 0 < r → path cues nodes r ≡ take (k + 1) (get_or cues i [])
-  found_path r f p = child_path cues nodes heads g.sound parent sign r f p ∙ next_path
 
   module _ (f : Found nodes parent sign 0) (to : ℕ) (w : to < length nodes) (e : path cues nodes to ≡ link_of cues (path cues nodes parent ++ sign ∷ [])) where
     abbrev made : Node

@@ -1,6 +1,6 @@
 -- Cues as parts of a list of signs.
-use Rattle.std.proofs.Common.{◌≡◌, ℕ, ◌+◌, ◌<◌, ◌≤◌, min, List, [], length, get_or, take, drop, sym, ap, ◌∙◌, ⊎_elim, arith}
-use Rattle.std.proofs.lemmas.List.{length-take, length-drop, length-map, get_or-map, get_or_past, get_or-take, get_or-drop, take-take}
+use Rattle.std.proofs.Common.{◌≡◌, ℕ, ◌<◌, ◌≤◌, min, List, [], length, get_or, take, drop, sym, ap, ◌∙◌, ⊎_elim, arith}
+use Rattle.std.proofs.lemmas.List.{length-take, length-drop, length-map, get_or-map, get_or_past, take-take}
 use Rattle.std.proofs.lemmas.Bool.{cases_lt}
 use Rattle.book.specs.Cues.{AllWithin, part_of, parts_of}
 use Rattle.book.specs.declared.cue.Cue.{Cue}
@@ -22,10 +22,6 @@ cue_short signs cues all i =
     (λ (h : i < length cues). omega (arith, cue_length signs cues all i none h, (all i none h).1))
     (λ (h : length cues ≤ i). omega (arith, ap length (get_or_past (parts_of signs cues) i [] (omega (arith, length-map cues (part_of signs))))))
     (cases_lt i (length cues))
-
-pub cue_sign : (signs : List ℕ) (cues : List Cue) (i k : ℕ) (d : Cue) → i < length cues → k < (get_or cues i d).len → get_or (get_or (parts_of signs cues) i []) k 0 ≡ get_or signs ((get_or cues i d).place + k) 0
-cue_sign signs cues i k d h l =
-    ap (λ c. get_or c k 0) (cue_at_lem signs cues i d h) ∙ get_or-take (get_or cues i d).len (drop (get_or cues i d).place signs) k 0 l ∙ get_or-drop (get_or cues i d).place signs k 0
 
 -- the first signs of a cue lie in a row
 pub front_of_cue : (signs : List ℕ) (cues : List Cue) → AllWithin (length signs) cues → (i n : ℕ) (d : Cue) → i < length cues → n ≤ length (get_or (parts_of signs cues) i []) → take n (drop (get_or cues i d).place signs) ≡ take n (get_or (parts_of signs cues) i [])

@@ -24,9 +24,6 @@ module _ (cues : List (List ℕ)) (nodes : List Node) (heads : List ℕ) (s : So
       let some = e.some in
       (w, e.linked, omega (arith, own, some, path_length cues nodes heads s (node_at nodes i).link w, ap length e.linked, link_shorter cues (path cues nodes i) (omega (arith, own, some))))
 
-  pub walking_none : (from sign : ℕ) → from < length nodes → Walking cues nodes from sign from 0
-  walking_none from sign h = record { within = h; lives = refl; counts = omega arith; falls = omega arith }
-
   module _ (from sign at trials : ℕ) (w : Walking cues nodes from sign at trials) where
     pub walking_hit : (r : ℕ) → Found nodes at sign r → 0 < r → Walked cues nodes from sign r (trials + 1)
     walking_hit r f p =
