@@ -81,3 +81,38 @@ pub fn bench_signs(
     }
     Ok(())
 }
+
+#[cfg(test)]
+mod tests {
+    use crate::{Cues, Fault, Number, bench_follow, bench_signs, bench_step};
+    use events::Refusal;
+    use std::test::Fail;
+
+    const CUES: [Number; 2] = [Number { value: 7 }, Number { value: 9 }];
+
+    #[test]
+    fn searches(rt: HostRuntime) -> Result<(), Fail> {
+        let cues = Cues {
+            events: &CUES,
+            lens: &[2],
+        };
+        let mut signs = [0u16; 2];
+        bench_signs(rt.alloc(), cues, &CUES, &mut signs)?;
+        assert_eq!(rt; signs.as_slice(), [0, 1].as_slice());
+        let stepped = bench_step(rt.alloc(), cues, &signs)?;
+        let followed = bench_follow(rt.alloc(), cues, &CUES)?;
+        assert_eq!(rt; stepped.sightings, 1);
+        assert!(rt; stepped == followed);
+        Ok(())
+    }
+
+    #[test]
+    fn refuses(rt: HostRuntime) {
+        let cues = Cues {
+            events: &CUES,
+            lens: &[0],
+        };
+        let answer = bench_step(rt.alloc(), cues, &[]);
+        assert!(rt; matches!(answer, Err(Fault::Refused(Refusal::EmptyCue))));
+    }
+}

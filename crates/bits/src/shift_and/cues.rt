@@ -97,7 +97,7 @@ impl BitEngine {
     {
         let number = usize::from(standing.0);
         let len = usize::from(standing.1);
-        if number == 0 && len == 0 {
+        if standing == (0, 0) {
             return Ok(&[]);
         }
         let c = self.spans.get(number).ok_or(Refusal::NoSuchCue)?;
