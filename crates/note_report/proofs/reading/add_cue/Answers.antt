@@ -16,8 +16,8 @@ loop-b-preserved c =
       first,
       c.loop-b.invariant.1,
       c.in_ok-extend.ensures ∙
-      (ap (λ cs. behind_last cs (get_or others i 0)) c.loop-b.invariant.2 ∙
-      (behind_last_lem before (first ∷ take i others) (get_or others i 0) ∙ ap (λ t. before ++ (first ∷ t) ∷ []) (sym (take_more others i 0 c.loop-b-test.true)))),
+          (ap (λ cs. behind_last cs (get_or others i 0)) c.loop-b.invariant.2 ∙
+          (behind_last_lem before (first ∷ take i others) (get_or others i 0) ∙ ap (λ t. before ++ (first ∷ t) ∷ []) (sym (take_more others i 0 c.loop-b-test.true)))),
     )
 
 pub returns : goal.returns

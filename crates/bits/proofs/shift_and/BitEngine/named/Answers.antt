@@ -1,4 +1,4 @@
-use Rattle.std.proofs.Common.{◌≡◌, ◌<◌, ◌≤◌, length, get_or, take, drop, sym, ap, ap₂, ◌∙◌, subst, arith}
+use Rattle.std.proofs.Common.{◌≡◌, ◌<◌, ◌≤◌, length, get_or, take, drop, sym, ap, ap₂, ◌∙◌, arith}
 use Rattle.book.specs.Cues.{cue_at, part_of, parts_of}
 use Rattle.book.specs.declared.cue.Cue.{Cue}
 use Rattle.std.proofs.lemmas.List.{length-map, take-take}
@@ -15,7 +15,7 @@ returns c =
     let s = c.args.standing in
     let value = c.deref.ensures.value in
     let found = (rw c.in_ok-c.ensures.ok_part at c.get.ensures.lookup).3 in
-    let not : Other s.0 s.1 = subst (λ n. Other n s.1) c.from-number.ensures (subst (Other c.from-number.result) c.from-len.ensures c.else-number-eq0.either) in
+    let not : Other s.0 s.1 = grind (arith, c.if-eq.ensures, c.eq.ensures) in
     let lt : s.0 < length spans = omega (arith, found.0, ap length value, c.from-number.ensures) in
     let at : c.in_ok-c.c.now ≡ span_at spans s.0 = found.1 (cue_at 0 0) ∙ ap₂ (λ xs n. get_or xs n (cue_at 0 0)) value c.from-number.ensures in
     let short : s.1 ≤ (span_at spans s.0).len = omega (arith, ap (λ (v : Cue). v.len) at, c.if-len-c.false, c.from-len.ensures) in
