@@ -1,11 +1,8 @@
 use Rattle.std.proofs.Common.{[], ◌∷◌, ◌++◌, get_or, take, sym, ap, ◌∙◌}
-use Rattle.std.proofs.lemmas.List.{take_all, take_more}
+use Rattle.std.proofs.lemmas.List.{take_more}
 use Rattle.script.specs.Listed.{behind_last, cues_of}
 use Rattle.note_report.proofs.Bytes.{behind_last_lem}
 use Rattle.note_report.proofs.reading.add_cue.Goals as goal
-
-pub loop-b-init : goal.loop-b-init
-loop-b-init c = (c.unwrap.result.0.now, (rw c.unwrap.ensures at c.split_first.ensures.cases).0, c.in_ok-begin.ensures)
 
 pub loop-b-preserved : goal.loop-b-preserved
 loop-b-preserved c =
@@ -19,9 +16,3 @@ loop-b-preserved c =
           (ap (λ cs. behind_last cs (get_or others i 0)) c.loop-b.invariant.2 ∙
           (behind_last_lem before (first ∷ take i others) (get_or others i 0) ∙ ap (λ t. before ++ (first ∷ t) ∷ []) (sym (take_more others i 0 c.loop-b-test.true)))),
     )
-
-pub returns : goal.returns
-returns c =
-    let first = c.loop-b.invariant.0 in
-    let before = cues_of c.args.cues.now in
-    c.loop-b.invariant.2 ∙ (ap (λ t. before ++ (first ∷ t) ∷ []) (take_all c.loop-b.b-index c.unwrap.result.1.now c.loop-b-test.false) ∙ ap (λ t. before ++ t ∷ []) (sym c.loop-b.invariant.1))

@@ -1,12 +1,6 @@
-use Rattle.std.proofs.Common.{arith}
 use Rattle.bits_theory.specs.Laid.{reach}
-use Rattle.bits_theory.proofs.Loops.{next_none, next_some, spans_lie}
+use Rattle.bits_theory.proofs.Loops.{next_none, next_some}
 use Rattle.bits.proofs.shift_and.BitEngine.longest_below.Goals as goal
-
-pub longest_set-requires : goal.longest_set-requires
-longest_set-requires c =
-    let e = c.args.self.now in
-    rw c.deref.ensures.value (spans_lie e.masks.signs.items e.spans.items (omega (arith, e.masks.short, e.masks.signs.ok.0)) e.spanned)
 
 pub returns-in_err-number : goal.returns-in_err-number
 returns-in_err-number c =

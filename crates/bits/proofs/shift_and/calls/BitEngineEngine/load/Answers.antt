@@ -26,21 +26,6 @@ lay-requires g c =
       state = inv.2;
     }
 
-pub loop-number-preserved : goal.loop-number-preserved
-loop-number-preserved g c =
-    let b = c.args.book.now in
-    let cues = parts_of b.material.signs.items b.cues.items in
-    let n = c.loop-number.number in
-    let inv = c.loop-number.invariant in
-    let told = c.cue_signs.ensures in
-    let laid = c.lay.ensures in
-    let there : n < length b.cues.items = omega (arith, ap length c.cues-number-end.ensures) in
-    let h : n < length cues = omega (arith, length-map b.cues.items (part_of b.material.signs.items)) in (
-      laid.cues ∙ (ap₂ (λ xs x. xs ++ x ∷ []) inv.0 told ∙ sym (take_more cues n [] h)),
-      omega (arith, laid.signs, ap length told, inv.1, total_more cues n h),
-      laid.state,
-    )
-
 pub returns : goal.returns
 returns g c =
     let b = c.args.book.now in

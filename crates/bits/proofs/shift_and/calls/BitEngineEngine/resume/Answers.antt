@@ -1,8 +1,8 @@
-use Rattle.std.proofs.Common.{◌≡◌, ◌+◌, true, [], ◌∷◌, ◌++◌, take, get_or, sym, refl, ap, ◌∙◌, subst}
+use Rattle.std.proofs.Common.{◌≡◌, ◌+◌, true, [], ◌∷◌, ◌++◌, take, get_or, sym, ap, ◌∙◌, subst}
 use Rattle.book.specs.Cues.{parts_of}
 use Rattle.matching.specs.Match.{beginning, live}
 use Rattle.matching.proofs.Live.{live_itself}
-use Rattle.std.proofs.lemmas.List.{take_more, take_all}
+use Rattle.std.proofs.lemmas.List.{take_more}
 use Rattle.bits_theory.proofs.Adding.{still}
 use Rattle.bits_theory.proofs.Reach.{reach_zero}
 use Rattle.bits_theory.proofs.Resuming.{named_begins}
@@ -25,11 +25,3 @@ loop-sign-preserved c =
       live = told.live ∙ (ap (λ x. live cues (x ++ get_or b i 0 ∷ [])) c.loop-sign.invariant.live ∙ (ap (live cues) (sym (take_more b i 0 c.loop-sign-test.true)) ∙ live_itself cues (take (i + 1) b) begins));
       exact = told.exact;
     }
-
-pub invariant_of-self-clause-exact : goal.invariant_of-self-clause-exact
-invariant_of-self-clause-exact c = c.loop-sign.invariant.exact
-
-pub returns-clause-held : goal.returns-clause-held
-returns-clause-held c =
-    let b = c.in_ok-sign-items.sign-items.now in
-    (refl, c.loop-sign.invariant.live ∙ (take_all c.loop-sign.sign-index b c.loop-sign-test.false ∙ c.in_ok-sign-items.ensures.1), refl)
