@@ -8,6 +8,7 @@ fn main(rt: HostRuntime) -> anyhow::Result<()> {
         rt.alloc(),
         rt.stdin(),
         &mut rt.stdout(),
+        // A closure: of another crate's function by name, the proof does not close.
         |heap, input| airing_report::airings_report(heap, input),
     )
 }

@@ -43,12 +43,10 @@ fn timed<T: Drop, F: FnOnce() -> T>(rt: &HostRuntime, work: F) -> io::Result<(T,
 
 // All sightings of an engine along the text.
 fn run_engine<L: Engine>(engine: &mut L, text: &[u16]) -> u64 {
-    let mut seen = 0u64;
-    for sign in text {
+    text.iter().fold(0u64, |seen, sign| {
         engine.step(*sign);
-        seen = seen.wrapping_add(engine.sighted() as u64);
-    }
-    seen
+        seen.wrapping_add(engine.sighted() as u64)
+    })
 }
 
 // How many cues of the book end a text.
@@ -66,7 +64,7 @@ fn run_naive(book: &Book<u8>, text: &[u16]) -> u64 {
 }
 
 // The time of a load, the time of one sign, and the number of sightings.
-#[derive(Clone, Copy)]
+#[derive(Clone, Copy, Debug)]
 struct Search {
     load: u128,
     each: u128,
@@ -110,8 +108,7 @@ impl Case {
         Ok(seen)
     }
 
-    fn search<L: Engine + Drop>(&self, rt: &HostRuntime, engine: L) -> io::Result<Search> {
-        let mut engine = engine;
+    fn search<L: Engine + Drop>(&self, rt: &HostRuntime, mut engine: L) -> io::Result<Search> {
         let (_, load) = timed(rt, || engine.load(&self.book))?;
         let (seen, time) = timed(rt, || run_engine(&mut engine, self.text.as_slice()))?;
         let each = time / 1_000_000;

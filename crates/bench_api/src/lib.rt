@@ -36,7 +36,8 @@ pub fn bench_step(heap: Global, cues: Cues<'_>, signs: &[u16]) -> Result<Tally, 
     Ok(tally)
 }
 
-// Follows the events in rounds, each with the same list of entries, and counts what is written.
+// Follows the events in rounds, each with the same list of entries, and counts what is written. The reports write
+// a line for each entry instead and may want memory. A round that takes no event would take none again.
 fn follow_rounds(
     watch: &mut Watch<LinkEngine>,
     book: &Book<Number>,

@@ -10,7 +10,7 @@ use std::alloc::Global;
 // and lengths that does not depend on their order. The interface to C has no Result, so the status is a
 // number.
 #[repr(C)]
-#[derive(Clone, Copy)]
+#[derive(Clone, Copy, PartialEq, Eq, Debug)]
 pub struct Answer {
     pub status: u64,
     pub sightings: u64,

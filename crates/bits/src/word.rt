@@ -20,7 +20,7 @@ pub(crate) fn front_len(word: u64, place: usize, len: usize) -> usize
     requires { place + len ≤ 64 }
     ensures { result ≡ top word place len }
 {
-    // A loop: of a search from the end of a range the proof of what it finds did not close.
+    // A loop: the proof of what a search from the end of a range finds does not close.
     for k in (0..len).rev() {
         if is_set(word, place + k) {
             return k + 1;

@@ -156,11 +156,7 @@ fn columns(line: &[u8], a: usize, b: usize) -> &[u8]
 fn good_or(is_good: bool, column: u8) -> Result<(), Refusal>
     ensures { MatchResult result (λ _. is_good ≡ true) (λ e. (is_good ≡ false) × (e ≡ Unreadable column)) }
 {
-    if is_good {
-        Ok(())
-    } else {
-        Err(Refusal::Unreadable { column })
-    }
+    is_good.then_some(()).ok_or(Refusal::Unreadable { column })
 }
 
 // Whether the line has this many columns and byte 10 behind them.

@@ -2,6 +2,7 @@
 
 use columns::AsRun;
 
+#[derive(Clone, Copy, PartialEq, Eq, Debug)]
 pub(crate) enum Row {
     // an event of the last cue
     More(AsRun),

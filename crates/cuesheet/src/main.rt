@@ -8,6 +8,7 @@ fn main(rt: HostRuntime) -> anyhow::Result<()> {
         rt.alloc(),
         rt.stdin(),
         &mut rt.stdout(),
+        // A closure: of another crate's function by name, the proof does not close.
         |heap, input| sheet::sheet_report(heap, input),
     )
 }

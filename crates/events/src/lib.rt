@@ -67,7 +67,8 @@ pub enum Refusal {
     EndBelowLast,
     // offer: the length is 0, or over the end and 1
     BadLength,
-    // a line is not readable; column 0 for a wrong length, else the first column of the leftmost bad field
+    // a line is not readable; column 0 for a wrong length, as the format has it, else the first column of the
+    // leftmost bad field
     Unreadable { column: u8 },
     // a cue line's number is neither the last cue's nor one more
     Misnumbered,

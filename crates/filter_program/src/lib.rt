@@ -8,7 +8,8 @@ ghost use Rattle.std.specs.Io.KnownBytes.{Appends};
 use std::alloc::{AllocError, Global};
 use std::io::{Read, Write};
 
-// One byte more than an input may have, so that a longer input is seen to be longer.
+// One byte more than an input may have, so that a longer input is seen to be longer. The limit itself stands in
+// `script`, which this crate needs for nothing else.
 const READ: u64 = 32_769;
 
 // Reads the input, up to one byte more than it may have, and writes what the report answers of it. After

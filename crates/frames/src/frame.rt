@@ -13,14 +13,14 @@ const HEADER: usize = 10;
 
 // A frame: the letter that says what it is, and its payload. A letter and no enum: each program has kinds
 // of its own.
-#[derive(Clone, Copy)]
+#[derive(Clone, Copy, PartialEq, Eq, Debug)]
 pub struct Frame<'a> {
     pub letter: u8,
     pub payload: &'a [u8],
 }
 
 // The frames at the front of an input. They end where a header is not good or the payload is cut off.
-#[derive(Clone, Copy)]
+#[derive(Clone, Copy, Debug)]
 pub struct Frames<'a> {
     rest: &'a [u8],
 }

@@ -8,6 +8,7 @@ fn main(rt: HostRuntime) -> anyhow::Result<()> {
         rt.alloc(),
         rt.stdin(),
         &mut rt.stdout(),
+        // A closure: of another crate's function by name, the proof does not close.
         |heap, input| note_report::notes_report(heap, input),
     )
 }

@@ -7,14 +7,14 @@ ghost use Rattle.script.specs.Told.{ReportedOnce};
 
 use crate::booking::{book_cues, lines_of};
 use crate::listing::list_runs;
-use crate::refusing::{refusal_text, refuse};
+use crate::refusing::refuse;
 use book::Draft;
 use columns::total_line;
 use events::{Event, Refusal};
-use script::{Layout, Script, is_long, refuse_long};
+use script::{Layout, Script, is_long, refusal_text, refuse_long};
 use std::alloc::{AllocError, Global};
 
-// Writes the totals, or why the line behind the text's events is refused.
+// Writes the totals, or why the line behind the text's events is refused. `end` is that of a `Script`.
 fn write_last(
     out: &mut Vec<u8>,
     end: Option<Refusal>,

@@ -16,6 +16,7 @@ enum Program {
 }
 
 impl Program {
+    // An Option and no `TryFrom`: there is no error to tell.
     fn of(letter: u8) -> Option<Program> {
         match letter {
             b'A' => Some(Program::Airings),

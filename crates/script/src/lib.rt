@@ -6,10 +6,12 @@
 mod contents;
 mod cues;
 mod limit;
+mod refusing;
 
 pub use contents::{Layout, Script};
 pub use cues::Cues;
 pub use limit::{is_long, refuse_long};
+pub use refusing::refusal_text;
 
 #[cfg(test)]
 mod tests {

@@ -3,7 +3,7 @@
 ghost use Rattle.std.specs.Prelude.{◌≡◌, length, IfOk, nat_lt};
 ghost use Rattle.script.specs.Answered.{longest_input, too_long_report};
 
-use columns::refusal_line;
+use crate::refusing::refusal_text;
 use events::Refusal;
 use std::alloc::{AllocError, Global};
 
@@ -21,6 +21,5 @@ pub fn is_long(input: &[u8]) -> bool
 pub fn refuse_long(heap: Global) -> Result<Vec<u8>, AllocError>
     ensures { IfOk result (λ v. v.items ≡ too_long_report) }
 {
-    let line = refusal_line(u64::from(Refusal::LongInput.number()), 0);
-    Vec::from_slice(heap, &line)
+    Vec::from_slice(heap, &refusal_text(Refusal::LongInput, 0))
 }

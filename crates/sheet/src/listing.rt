@@ -28,6 +28,7 @@ pub(crate) fn list_cues(
     requires size { sum lens.now < 2 ^ 63 }
     ensures { IfOk result (λ r. (lines : ℕ) (stop : OptionOf RefusalOf) → out.new.items ++ refused_or (result_err r) (last_line (draft_held draft.new) lines stop) ≡ out.old.items ++ listing same_as_run (draft_held draft.old) (cues_at 0 lens.now) lines stop) }
 {
+    // The place is a sum beside the loop: a granted cue's line tells it.
     let mut place = 0;
     for len in lens {
         let end = place + *len;

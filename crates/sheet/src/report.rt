@@ -11,13 +11,14 @@ ghost use Rattle.sheet.specs.Rows.{sheet_of};
 
 use crate::listing::list_cues;
 use book::Draft;
-use columns::{AsRun, refusal_line, total_line};
+use columns::{AsRun, total_line};
 use cue_lines::read_cues;
 use events::Refusal;
-use script::{Cues, is_long, refuse_long};
+use script::{Cues, is_long, refusal_text, refuse_long};
 use std::alloc::{AllocError, Global};
 
-// Writes the totals of the book, or why a line is refused.
+// Writes the totals of the book, or why a line is refused. What this shares with the reports on texts is
+// `refusal_text` and `total_line`; the totals are others.
 fn write_last(
     out: &mut Vec<u8>,
     draft: Draft<AsRun>,
@@ -32,8 +33,7 @@ fn write_last(
             out.extend_from_slice(&line)?;
         }
         Err((refusal, line)) => {
-            let line = refusal_line(u64::from(refusal.number()), line as u64);
-            out.extend_from_slice(&line)?;
+            out.extend_from_slice(&refusal_text(refusal, line))?;
         }
     }
     Ok(())

@@ -22,6 +22,7 @@ enum Question {
 }
 
 impl Question {
+    // An Option and no `TryFrom`: there is no error to tell.
     fn of(letter: u8) -> Option<Question> {
         match letter {
             b'S' => Some(Question::Sheet),

@@ -1,6 +1,7 @@
 -- Following one event after another: what is so as far as the loop has come.
 use Rattle.std.proofs.Common.{◌≡◌, ℕ, suc, ◌+◌, ◌-◌, ◌*◌, ◌<◌, ◌≤◌, true, cond, ◌&&◌, ltb, leb, List, [], ◌∷◌, ◌++◌, map, length, get_or, take, drop, Some, None, sym, refl, ap, ◌∙◌, append_assoc, append-nil, arith, length-append}
 use Rattle.std.proofs.lemmas.List.{drop_all, drop_at, drop-drop, drop_more, length-map, map-append, take_at}
+use Rattle.std.proofs.lemmas.Bool.{le-leb, lt-ltb}
 use Rattle.book.specs.declared.entry.Entry.{Entry}
 use Rattle.matching.specs.Follow.{ending_at, entries_at, followed_at, longest_text, placed}
 use Rattle.matching.specs.Match.{beginning, live, sightings}
@@ -47,13 +48,13 @@ free_enough len free h = grind (arith, h)
 
 module _ (cues : List (List ℕ)) (b : List ℕ) (len cost : ℕ) (signs : List ℕ) (old : List Entry) where
   -- One event more.
-  pub sofar_more : {i written : ℕ} {cues' : List (List ℕ)} {b' : List ℕ} {len' cost' : ℕ} {new : List Entry} → Sofar cues b len cost signs old i written cues' b' len' cost' new →
+  pub sofar_step : {i written : ℕ} {cues' : List (List ℕ)} {b' : List ℕ} {len' cost' : ℕ} {new : List Entry} → Sofar cues b len cost signs old i written cues' b' len' cost' new →
       (cues'' : List (List ℕ)) (b'' : List ℕ) (len'' cost'' written'' : ℕ) (new'' : List Entry) (s : ℕ) → i < length signs → s ≡ get_or signs i 0 → None ≡ obstacle len' (length old - written) →
       cues'' ≡ cues' → b'' ≡ live cues' (b' ++ s ∷ []) → len'' ≡ len' + 1 → cost'' + length b'' ≤ cost' + length b' + 2 →
       written'' ≡ written + length (sightings cues (b' ++ s ∷ [])) →
       new'' ≡ take written new ++ (map (entry_at len') (sightings cues (b' ++ s ∷ [])) ++ drop (length (sightings cues (b' ++ s ∷ []))) (drop written new)) →
       Sofar cues b len cost signs old (i + 1) written'' cues'' b'' len'' cost'' new''
-  sofar_more {i} {written} {cues'} {b'} {len'} {cost'} {new} h cues'' b'' len'' cost'' written'' new'' s more is none same'' went'' long'' cheap'' index list =
+  sofar_step {i} {written} {cues'} {b'} {len'} {cost'} {new} h cues'' b'' len'' cost'' written'' new'' s more is none same'' went'' long'' cheap'' index list =
       let seen = sightings cues (b' ++ s ∷ []) in
       let left = length old - written in
       let next = drop (i + 1) signs in
@@ -90,6 +91,22 @@ module _ (cues : List (List ℕ)) (b : List ℕ) (len cost : ℕ) (signs : List 
         taken = omega (arith, f, h.taken);
         ended = sym g ∙ h.ended;
       }
+
+  -- The same, where the text has room and 32 entries are free.
+  pub sofar_more : {i written : ℕ} {cues' : List (List ℕ)} {b' : List ℕ} {len' cost' : ℕ} {new : List Entry} → Sofar cues b len cost signs old i written cues' b' len' cost' new →
+      (cues'' : List (List ℕ)) (b'' : List ℕ) (len'' cost'' written'' : ℕ) (new'' : List Entry) (s : ℕ) → i < length signs → s ≡ get_or signs i 0 → len' < longest_text → written + 32 ≤ length old →
+      cues'' ≡ cues' → b'' ≡ live cues' (b' ++ s ∷ []) → len'' ≡ len' + 1 → cost'' + length b'' ≤ cost' + length b' + 2 →
+      written'' ≡ written + length (sightings cues (b' ++ s ∷ [])) →
+      new'' ≡ take written new ++ (map (entry_at len') (sightings cues (b' ++ s ∷ [])) ++ drop written'' new) →
+      Sofar cues b len cost signs old (i + 1) written'' cues'' b'' len'' cost'' new''
+  sofar_more {i} {written} {cues'} {b'} {len'} {cost'} {new} h cues'' b'' len'' cost'' written'' new'' s more is room free same'' went'' long'' cheap'' index list =
+      let seen = sightings cues (b' ++ s ∷ []) in
+      let can = lt-ltb len' longest_text room in
+      let roomy : leb 32 (length old - written) ≡ true = le-leb 32 (length old - written) (omega arith) in
+      let none : None ≡ obstacle len' (length old - written) = grind (arith, can, roomy) in
+      let behind : drop written'' new ≡ drop (length seen) (drop written new) = ap (λ k. drop k new) index ∙ sym (drop-drop (length seen) written new) in
+      sofar_step h cues'' b'' len'' cost'' written'' new'' s more is none same'' went'' long'' cheap'' index
+      (list ∙ ap (λ z. take written new ++ (map (entry_at len') seen ++ z)) behind)
 
   -- What is so when it ends: the answers, from what was live and the length of the text.
   pub record Ended (i written ending : ℕ) (cues' : List (List ℕ)) (b' : List ℕ) (len' cost' : ℕ) (new : List Entry) : Type 0 where

@@ -75,6 +75,7 @@ impl<L: Engine> Watch<L> {
         ensures leads { Leads L.Engine self.old (follows (lookups E.Event.same (book_held book.now) events.now) (length entries.old)) self.new }
         ensures events { Always L.Engine self.old (LoadedEvents E.Event.same (book_held book.now) events.now (length entries.old)) }
     {
+        // A sum beside the loop: the loop may end with it before the events do.
         let mut written = 0;
         for (taken, event) in events.iter().enumerate() {
             if let Some(ending) = self.obstacle(entries.len() - written) {

@@ -16,7 +16,7 @@ pub enum Ending {
 impl Ending {
     ghost use Rattle.watch.specs.Following.{ending_number};
 
-    // The number of this ending.
+    // The number of this ending. A method and no `From`: the name says what the number is.
     pub fn number(&self) -> u8
         ensures { result ≡ ending_number self.now }
     {
@@ -24,7 +24,8 @@ impl Ending {
     }
 }
 
-// How many events were taken, how many entries were written, and why it ended.
+// How many events were taken, how many entries were written, and why it ended. The entries are the caller's: to
+// follow wants no memory.
 #[derive(Clone, Copy, PartialEq, Eq, Debug)]
 pub struct Followed {
     pub taken: usize,

@@ -22,7 +22,7 @@ pub(crate) enum Command {
 }
 
 impl Command {
-    // The command of a line's first word: none for an empty word, or one that begins with byte 0.
+    // The command of a line's first word, as an Option, since there is no error to tell: none for an empty word, or one that begins with byte 0.
     pub(crate) fn of(name: &[u8]) -> Option<Command> {
         let call = match *name.first()? {
             0 => return None,

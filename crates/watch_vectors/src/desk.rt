@@ -33,6 +33,7 @@ fn make_book(words: &[u8], out: &mut String) -> Result<Option<Book<u8>>, AllocEr
         letters.extend_from_slice(word)?;
     }
     let mut draft = Draft::begin(heap, letters)?;
+    // The place is a sum beside the loop, since each add may end it.
     let mut place = 0usize;
     for word in words.split(|b| *b == b' ').filter(|w| !w.is_empty()) {
         if let Err(refusal) = draft.add(place, word.len()) {

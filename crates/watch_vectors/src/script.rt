@@ -46,15 +46,15 @@ impl Machine {
 
 // A machine and a lane.
 #[derive(Drop)]
-struct Session {
+struct State {
     machine: Machine,
     lane: Lane,
 }
 
-impl Session {
+impl State {
     // A machine of this kind and a new lane.
-    fn new(heap: Global, kind: &[u8]) -> Result<Session, AllocError> {
-        Ok(Session {
+    fn new(heap: Global, kind: &[u8]) -> Result<State, AllocError> {
+        Ok(State {
             machine: Machine::new(heap, kind)?,
             lane: Lane::new(),
         })
@@ -68,7 +68,7 @@ impl Session {
     ) -> Result<(), AllocError> {
         match command {
             Command::New => {
-                *self = Session::new(*out.allocator(), words)?;
+                *self = State::new(*out.allocator(), words)?;
                 writeln!(out, "new")
             }
             Command::Offer => self.offer(words, out),
@@ -89,11 +89,11 @@ impl Session {
 // The answers to all commands.
 pub(crate) fn answers(heap: Global, input: &[u8]) -> Result<String, AllocError> {
     let mut out = String::new(heap);
-    let mut session = Session::new(heap, b"K")?;
+    let mut state = State::new(heap, b"K")?;
     for line in input.split(|b| *b == b'\n') {
         let (name, words) = split_word(line);
         if let Some(command) = Command::of(name) {
-            session.answer(command, words, &mut out)?;
+            state.answer(command, words, &mut out)?;
         }
     }
     Ok(out)

@@ -17,6 +17,8 @@ pub(crate) fn two_words(line: &[u8]) -> (&[u8], &[u8]) {
     (first, second)
 }
 
+// Each mask fits its type, which the conversion behind it needs to see.
+
 pub(crate) fn low_16(word: &[u8]) -> u16 {
     (number_in(word) & 0xffff) as u16
 }

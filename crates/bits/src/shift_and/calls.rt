@@ -53,6 +53,7 @@ impl Engine for BitEngine {
             return None;
         }
         let mut below = Self::CAPACITY + 1;
+        // Repeated, with no index.
         for _ in 1..i {
             below = usize::from(self.longest_below(below)?.1);
         }

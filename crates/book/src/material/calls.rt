@@ -73,7 +73,8 @@ impl<E: Event> Material<E> {
             .position(|(i, (m, s))| usize::from(*s) == i && m.same(event))
     }
 
-    // The signs of a cue.
+    // The signs of a cue. `Within` is asked for here and below, and is no part of `Cue`: a place and a length are
+    // within one material and not within another.
     pub(crate) fn part(&self, c: Cue) -> &[u16]
         requires { Within (vec_len self.now.events) c }
         ensures { result.now ≡ part_of self.now.signs.items c }

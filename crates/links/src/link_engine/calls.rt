@@ -84,9 +84,7 @@ impl LinkEngine {
         }
         self.descend(usize::from(standing.0), usize::from(standing.1))
     }
-}
 
-impl LinkEngine {
     // The sightings of the live beginning, the longest first.
     fn sightings(&self) -> Sightings<'_>
         ensures { seen_at result.table.now result.at ≡ sightings (engine_cues self.now) (engine_live self.now) }

@@ -8,7 +8,7 @@ use Rattle.watch.specs.Following.{entry_at, LoadedEvents, obstacle, WroteFirst}
 use Rattle.watch.proofs.Books.{book_cues_of, book_within}
 use Rattle.watch.proofs.Hearing.{loaded_events}
 use Rattle.watch.proofs.Runs.{followed_right}
-use Rattle.watch.proofs.Sofar.{Ended, ended_done, ended_early, free_enough, sofar_more, sofar_none}
+use Rattle.watch.proofs.Sofar.{Ended, ended_done, ended_early, free_enough, sofar_step, sofar_none}
 use Rattle.watch.proofs.Writing.{put_rest, wrote_same}
 use Rattle.watch.proofs.watch.Watch.follow.Given.{Over}
 use Rattle.watch.proofs.watch.Watch.follow.Goals as goal
@@ -58,7 +58,7 @@ loop-taken-preserved g c =
       λ begun few.
           let h = c.loop-taken.invariant.1 begun few in
           let wrote = wrote_same cues (m.cues w.engine) text text w.len (drop n now) _ _ (ap (λ cs. sightings cs text) h.same) told_wrote (omega (arith, few text, left, free_enough w.len _ none, c.loop-taken.auto.entries)) in
-          sofar_more cues (m.live v.engine) v.len (m.cost v.engine) signs c.args.entries.now h _ _ _ _ _ _ s
+          sofar_step cues (m.live v.engine) v.len (m.cost v.engine) signs c.args.entries.now h _ _ _ _ _ _ s
           (omega (arith, c.loop-taken-test.true)) at none told.cues told.live told.len told.cost (ap (λ k. n + k) wrote.0)
           (put_rest now c.follow_one-written.new.free n fits ∙ ap (λ z. take n now ++ z) (wrote.1 ∙ ap (λ k. map (entry_at w.len) (sightings cues text) ++ drop k (drop n now)) wrote.0)),
     )
