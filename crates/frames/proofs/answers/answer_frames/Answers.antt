@@ -4,11 +4,8 @@ use Rattle.std.specs.Io.KnownBytes.{Appends}
 use Rattle.frames.specs.Answers.{Answered}
 use Rattle.frames.specs.Answers.Answered.{a_frame, no_frame}
 use Rattle.frames.specs.Frames.{GivesFrame, rest_of}
-use Rattle.frames.proofs.Written.{appends_both, appends_nothing, writes_answers}
+use Rattle.frames.proofs.Written.{appends_both, writes_answers}
 use Rattle.frames.proofs.answers.answer_frames.Goals as goal
-
-pub loop-frame-init : goal.loop-frame-init
-loop-frame-init g c = ([], appends_nothing _, λ more a. a)
 
 pub loop-frame-preserved : goal.loop-frame-preserved
 loop-frame-preserved g c =

@@ -8,15 +8,11 @@ use Rattle.watch.specs.Following.{entry_at, LoadedEvents, obstacle, WroteFirst}
 use Rattle.watch.proofs.Books.{book_cues_of, book_within}
 use Rattle.watch.proofs.Hearing.{loaded_events}
 use Rattle.watch.proofs.Runs.{followed_right}
-use Rattle.watch.proofs.Sofar.{Ended, ended_done, ended_early, free_enough, sofar_step, sofar_none}
+use Rattle.watch.proofs.Sofar.{Ended, ended_done, ended_early, free_enough, sofar_step}
 use Rattle.watch.proofs.Writing.{put_rest, wrote_same}
 use Rattle.watch.proofs.watch.Watch.follow.Given.{Over}
 use Rattle.watch.proofs.watch.Watch.follow.Goals as goal
 
-pub loop-taken-init : goal.loop-taken-init
-loop-taken-init g c = (omega arith, λ begun few. sofar_none _ _ _ _ _ _ begun)
-
--- What is listed, in events.
 in-events : (g : Over) (b : Book g.row.E.Denot) (events : List g.row.E.Denot) (free : ℕ) (a : Account) → LoadedEvents g.E.Event.same (book_held b) events free a
 in-events g b events free a =
     loaded_events g.E.Event.same (record { reflexive = g.met.E.Event.reflexive; symmetric = g.met.E.Event.symmetric; transitive = g.met.E.Event.transitive }) (book_held b)
