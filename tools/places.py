@@ -3,9 +3,10 @@
 
     python3 tools/places.py [KIND ..]
 
-It goes by text: docs/DESIGN-PASS.md says of each line which it is. A place of kind `clause` or `params` is a
-fact or a pair of parameters that stands in three or more functions of one crate, one of kind `twin` a pair of
-runs of five or more lines that are alike but for names, numbers and texts.
+It goes by text, and a line that it lists need not be a place: docs/DESIGN-PASS.md says what was found and what
+stays. A place of kind `clause` or `params` is a fact or a pair of parameters that stands in three or more
+functions of one crate, one of kind `twin` a pair of runs of five or more lines that are alike but for names,
+numbers and texts.
 """
 import re, sys
 from pathlib import Path
