@@ -16,17 +16,16 @@ abbrev pub seen_at : Table → ℕ → List (ℕ × ℕ)
 seen_at t at = sightings (cues_in t) (path (cues_in t) (vec_items t.nodes) at)
 
 abbrev pub SoundIn : Table → Type 0
-SoundIn t = Sound (cues_in t) (vec_items t.nodes) (vec_items t.heads)
+SoundIn t = Sound (cues_in t) (vec_items t.nodes) t.heads
 
 abbrev pub GrowingIn : Table → ℕ → ℕ → Type 0
-GrowingIn t k i = Growing (cues_in t) (vec_items t.nodes) (vec_items t.heads) (vec_items t.places) k i
+GrowingIn t k i = Growing (cues_in t) (vec_items t.nodes) t.heads (vec_items t.places) k i
 
 -- a build leaves the signs and the cues alone, and the memory
 pub record Kept (t u : Table) : Type 0 where
   pub signs : u.signs ≡ t.signs
   pub cues : u.cues ≡ t.cues
   pub nodes : vec_capacity u.nodes ≡ vec_capacity t.nodes
-  pub heads : vec_capacity u.heads ≡ vec_capacity t.heads
   pub places : vec_capacity u.places ≡ vec_capacity t.places
 
 -- a build at level k and cue i, with memory to go on
@@ -39,13 +38,13 @@ pub record Building (t : Table) (k i : ℕ) : Type 0 where
   pub room : 1025 ≤ vec_capacity t.nodes
 
 abbrev pub ReadyIn : Table → ℕ → Type 0
-ReadyIn t at = Ready (cues_in t) (vec_items t.nodes) (vec_items t.heads) at
+ReadyIn t at = Ready (cues_in t) (vec_items t.nodes) t.heads at
 
 -- memory for any book
 abbrev pub Roomy : Table → Type 0
 Roomy t =
     ((2048 ≤ vec_capacity t.signs) × (128 ≤ vec_capacity t.cues) × (1025 ≤ vec_capacity t.nodes)) ×
-    ((1024 ≤ vec_capacity t.heads) × (128 ≤ vec_capacity t.places))
+    (128 ≤ vec_capacity t.places)
 
 -- what a book promises of its cues
 pub record Bookable (signs : List ℕ) (cues : List Cue) : Type 0 where

@@ -24,10 +24,9 @@ impl Table {
     fn add(&mut self, parent: u16, sign: u16, cue: u16, len: u16) -> u16
         requires room { vec_len self.old.nodes < vec_capacity self.old.nodes }
         requires few { vec_len self.old.nodes ≤ 1024 }
-        requires heads { length self.old.heads.items ≡ 1024 }
         ensures value { result ≡ length self.old.nodes.items }
-        ensures nodes { self.new.nodes.items ≡ self.old.nodes.items ++ new_node parent sign (slice_index self.old.heads.items (slot_of parent sign)) 0 cue len ∷ [] }
-        ensures heads { self.new.heads.items ≡ slice_set self.old.heads.items (slot_of parent sign) (length self.old.nodes.items) }
+        ensures nodes { self.new.nodes.items ≡ self.old.nodes.items ++ new_node parent sign (slice_index self.old.heads (slot_of parent sign)) 0 cue len ∷ [] }
+        ensures heads { self.new.heads ≡ slice_set self.old.heads (slot_of parent sign) (length self.old.nodes.items) }
         ensures places { self.new.places ≡ self.old.places }
         ensures kept { Kept self.old self.new }
     {

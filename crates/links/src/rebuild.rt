@@ -35,13 +35,12 @@ impl Table {
         let signs = Vec::with_capacity(heap, MATERIAL)?;
         let cues = Vec::with_capacity(heap, CUES)?;
         let nodes = Vec::with_capacity(heap, NODES)?;
-        let heads = Vec::with_capacity(heap, SLOTS)?;
         let places = Vec::with_capacity(heap, CUES)?;
         Ok(Table {
             signs,
             cues,
             nodes,
-            heads,
+            heads: [0; SLOTS],
             places,
         })
     }
@@ -58,7 +57,7 @@ impl Table {
         refill(&mut self.signs, signs);
         refill(&mut self.cues, cues);
         fill(&mut self.nodes, 1, ROOT);
-        fill(&mut self.heads, SLOTS, 0);
+        self.heads.fill(0);
         fill(&mut self.places, cues.len(), 0);
     }
 

@@ -14,7 +14,7 @@ module _ (s : Sightings) (at : ℕ) (n : Node) (p : 0 < at) (h : at < length (ve
 
   seen : (o : Option ℕ) → n.whole ≡ o → seen_at s.table.now at ≡ exact_of o n.len ++ seen_at s.table.now n.link
   seen o is =
-      sightings_entry (cues_in s.table.now) (vec_items s.table.now.nodes) (vec_items s.table.now.heads) s.at (ready_table s.table.now s.at s.ready) at p h ∙ ap (λ m. exact_of m.whole m.len ++ seen_at s.table.now m.link) (sym e) ∙ ap (λ x. exact_of x n.len ++ seen_at s.table.now n.link) is
+      sightings_entry (cues_in s.table.now) (vec_items s.table.now.nodes) s.table.now.heads s.at (ready_table s.table.now s.at s.ready) at p h ∙ ap (λ m. exact_of m.whole m.len ++ seen_at s.table.now m.link) (sym e) ∙ ap (λ x. exact_of x n.len ++ seen_at s.table.now n.link) is
 
 pub invariant_of-self : goal.invariant_of-self
 invariant_of-self c =
@@ -50,5 +50,5 @@ invariant_of-self-2 c =
 pub returns-clause-steps : goal.returns-clause-steps
 returns-clause-steps c =
     let s = c.loop-at.self in
-    let none = sightings_root (cues_in s.table.now) (vec_items s.table.now.nodes) (vec_items s.table.now.heads) s.at (ready_table s.table.now s.at s.ready) in
+    let none = sightings_root (cues_in s.table.now) (vec_items s.table.now.nodes) s.table.now.heads s.at (ready_table s.table.now s.at s.ready) in
     (sym c.loop-at.invariant.1 ∙ ap (seen_at s.table.now) c.loop-at-test.false ∙ none, none)
