@@ -9,15 +9,13 @@ use Rattle.links.specs.declared.table.Table.{Table}
 use Rattle.links.specs.Tables.{cues_in, Kept, Building}
 
 pub kept_same : (t : Table) → Kept t t
-kept_same t = record { signs = refl; cues = refl; nodes = refl; places = refl }
+kept_same t = record { signs = refl; cues = refl }
 
 pub kept_more : (t u v : Table) → Kept t u → Kept u v → Kept t v
 kept_more t u v p q =
     record {
       signs = q.signs ∙ p.signs;
       cues = q.cues ∙ p.cues;
-      nodes = q.nodes ∙ p.nodes;
-      places = q.places ∙ p.places;
     }
 
 pub kept_cues : (t u : Table) → Kept t u → cues_in u ≡ cues_in t
@@ -36,7 +34,6 @@ building_kept t u k i j b e g few =
       fits = subst (λ cs. total cs ≤ 1024) (sym (kept_cues t u e)) b.fits;
       within = within_kept t u e b.within;
       numbers = subst (λ v. length (vec_items v) ≤ 128) (sym e.cues) b.numbers;
-      room = subst (λ n. 1025 ≤ n) (sym e.nodes) b.room;
     }
 
 -- a level done
@@ -49,5 +46,4 @@ building_level t k i b h =
       fits = b.fits;
       within = b.within;
       numbers = b.numbers;
-      room = b.room;
     }

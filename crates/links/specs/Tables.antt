@@ -1,5 +1,5 @@
 -- What a table means, and what holds while it is built.
-use Rattle.std.specs.Prelude.{◌≡◌, ℕ, ◌+◌, ◌≤◌, true, List, length, vec_items, vec_capacity}
+use Rattle.std.specs.Prelude.{◌≡◌, ℕ, ◌+◌, ◌≤◌, true, List, length, vec_items}
 use Rattle.book.specs.Cues.{AllWithin, parts_of}
 use Rattle.book.specs.declared.cue.Cue.{Cue}
 use Rattle.matching.specs.Calls.{total}
@@ -21,30 +21,21 @@ SoundIn t = Sound (cues_in t) (vec_items t.nodes) t.heads
 abbrev pub GrowingIn : Table → ℕ → ℕ → Type 0
 GrowingIn t k i = Growing (cues_in t) (vec_items t.nodes) t.heads (vec_items t.places) k i
 
--- a build leaves the signs and the cues alone, and the memory
+-- a build leaves the signs and the cues alone
 pub record Kept (t u : Table) : Type 0 where
   pub signs : u.signs ≡ t.signs
   pub cues : u.cues ≡ t.cues
-  pub nodes : vec_capacity u.nodes ≡ vec_capacity t.nodes
-  pub places : vec_capacity u.places ≡ vec_capacity t.places
 
--- a build at level k and cue i, with memory to go on
+-- a build at level k and cue i
 pub record Building (t : Table) (k i : ℕ) : Type 0 where
   pub growing : GrowingIn t k i
   pub few : length (vec_items t.nodes) ≤ 1 + done k i (cues_in t)
   pub fits : total (cues_in t) ≤ 1024
   pub within : AllWithin (length (vec_items t.signs)) (vec_items t.cues)
   pub numbers : length (vec_items t.cues) ≤ 128
-  pub room : 1025 ≤ vec_capacity t.nodes
 
 abbrev pub ReadyIn : Table → ℕ → Type 0
 ReadyIn t at = Ready (cues_in t) (vec_items t.nodes) t.heads at
-
--- memory for any book
-abbrev pub Roomy : Table → Type 0
-Roomy t =
-    ((2048 ≤ vec_capacity t.signs) × (128 ≤ vec_capacity t.cues) × (1025 ≤ vec_capacity t.nodes)) ×
-    (128 ≤ vec_capacity t.places)
 
 -- what a book promises of its cues
 pub record Bookable (signs : List ℕ) (cues : List Cue) : Type 0 where

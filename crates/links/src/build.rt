@@ -1,6 +1,6 @@
 // Building the table: level by level, first all beginnings of one sign, then of two, and so on.
 
-ghost use Rattle.std.specs.Prelude.{◌≡◌, ◌+◌, ◌<◌, ◌≤◌, [], ◌∷◌, ◌++◌, length, take, vec_len, vec_capacity, slice_index, slice_index_or, slice_set};
+ghost use Rattle.std.specs.Prelude.{◌≡◌, ◌+◌, ◌<◌, ◌≤◌, [], ◌∷◌, ◌++◌, length, take, vec_len, slice_index, slice_index_or, slice_set};
 ghost use Rattle.links_theory.specs.Entries.{linked, new_node, node_at, path, slot_of};
 ghost use Rattle.links.specs.Tables.{Building, cues_in, GrowingIn, Kept};
 
@@ -22,8 +22,7 @@ impl Table {
 
     // Adds an entry, at the head of its chain and with no link yet.
     fn add(&mut self, parent: u16, sign: u16, cue: u16, len: u16) -> u16
-        requires room { vec_len self.old.nodes < vec_capacity self.old.nodes }
-        requires few { vec_len self.old.nodes ≤ 1024 }
+        requires { vec_len self.old.nodes ≤ 1024 }
         ensures value { result ≡ length self.old.nodes.items }
         ensures nodes { self.new.nodes.items ≡ self.old.nodes.items ++ new_node parent sign (slice_index self.old.heads (slot_of parent sign)) 0 cue len ∷ [] }
         ensures heads { self.new.heads ≡ slice_set self.old.heads (slot_of parent sign) (length self.old.nodes.items) }

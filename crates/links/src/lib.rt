@@ -9,5 +9,6 @@ mod lists;
 mod queries;
 mod rebuild;
 mod table;
+mod walk;
 
 pub use link_engine::LinkEngine;

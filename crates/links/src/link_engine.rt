@@ -2,7 +2,7 @@
 
 ghost use Rattle.std.specs.Prelude.{◌≡◌, vec_len};
 ghost use Rattle.book.specs.Cues.{AllWithin};
-ghost use Rattle.links.specs.Tables.{ReadyIn, Roomy};
+ghost use Rattle.links.specs.Tables.{ReadyIn};
 
 use crate::table::Table;
 
@@ -18,7 +18,6 @@ pub struct LinkEngine {
     trials: u32,
     ghost ready: { ∥ ReadyIn table at ∥₁ },
     ghost within: { AllWithin (vec_len table.signs) table.cues.items },
-    ghost room: { Roomy table },
 }
 
 impl LinkEngine {

@@ -1,9 +1,9 @@
 // Filling the table anew for the cues of a book.
 
-ghost use Rattle.std.specs.Prelude.{◌≡◌, true, IfOk, vec_len};
+ghost use Rattle.std.specs.Prelude.{◌≡◌, true, vec_len};
 ghost use Rattle.book.specs.Cues.{AllWithin, parts_of};
 ghost use Rattle.matching.specs.Match.{distinct};
-ghost use Rattle.links.specs.Tables.{Building, Bookable, cues_in, Kept, ReadyIn, Roomy};
+ghost use Rattle.links.specs.Tables.{Building, Bookable, cues_in, Kept, ReadyIn};
 
 use crate::link_engine::LinkEngine;
 use crate::lists::{fill, refill};
@@ -31,9 +31,7 @@ const NODES: usize = LinkEngine::CAPACITY + 1;
 // proved again by each function that writes one entry.
 impl Table {
     // An empty table with memory for any book.
-    pub(crate) fn reserve(heap: Global) -> Result<Table, AllocError>
-        ensures { IfOk result (λ t. Roomy t) }
-    {
+    pub(crate) fn reserve(heap: Global) -> Result<Table, AllocError> {
         let signs = Vec::with_capacity(heap, MATERIAL)?;
         let cues = Vec::with_capacity(heap, CUES)?;
         let nodes = Vec::with_capacity(heap, NODES)?;
@@ -49,12 +47,10 @@ impl Table {
 
     // The root alone, over these cues.
     fn begin(&mut self, signs: &[u16], cues: &[Cue])
-        requires room { Roomy self.old }
-        requires book { Bookable signs.now cues.now }
+        requires { Bookable signs.now cues.now }
         ensures building { Building self.new 0 0 }
         ensures signs { self.new.signs.items ≡ signs.now }
         ensures cues { self.new.cues.items ≡ cues.now }
-        ensures room { Roomy self.new }
     {
         refill(&mut self.signs, signs);
         refill(&mut self.cues, cues);
@@ -77,12 +73,10 @@ impl Table {
 
     // The table of these cues.
     pub(crate) fn rebuild(&mut self, signs: &[u16], cues: &[Cue])
-        requires room { Roomy self.old }
-        requires book { Bookable signs.now cues.now }
+        requires { Bookable signs.now cues.now }
         ensures ready { ReadyIn self.new 0 }
         ensures cues { cues_in self.new ≡ parts_of signs.now cues.now }
         ensures within { AllWithin (vec_len self.new.signs) self.new.cues.items }
-        ensures room { Roomy self.new }
     {
         self.begin(signs, cues);
         self.build();

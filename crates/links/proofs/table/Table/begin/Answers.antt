@@ -13,7 +13,7 @@ returns-clause-building c =
     let nodes = c.fill.ensures.items in
     let heads = c.fill-2.ensures.after (λ y e. e) ∙ ap (λ n. replicate n zero) (let n : length c.args.self.now.heads ≡ 1024 = omega arith in n) in
     let places = c.fill-3.ensures.items in
-    let book = c.requires.book in
+    let book = c.requires in
     let all = ap (λ xs. parts_of xs (vec_items c.refill-2.new.list)) signs ∙ ap (parts_of c.args.signs.now) cues in
     let none : length (vec_items c.fill.new.list) ≡ 1 = ap length nodes in
     record {
@@ -22,5 +22,4 @@ returns-clause-building c =
       fits = subst (λ cs. total cs ≤ 1024) (sym all) book.fits;
       within = subst (λ xs. AllWithin (length xs) (vec_items c.refill-2.new.list)) (sym signs) (subst (AllWithin (length c.args.signs.now)) (sym cues) book.within);
       numbers = omega (arith, ap length cues, book.numbers);
-      room = omega (arith, c.fill.ensures.room, c.requires.room.0.2);
     }

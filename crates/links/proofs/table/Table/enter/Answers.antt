@@ -51,7 +51,7 @@ add-at-requires c =
     let t = c.args.self.now in
     let b = c.requires.building in
     let few = roomy t c.args.k c.args.number b c.requires.number c.requires.longer in
-    record { room = omega (arith, few, b.room, t.nodes.ok.0); few = omega (arith, few, t.nodes.ok.0) }
+    omega (arith, few, t.nodes.ok.0)
 
 pub returns : goal.returns
 returns c =

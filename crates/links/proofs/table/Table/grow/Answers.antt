@@ -1,11 +1,10 @@
 use Rattle.std.proofs.Common.{◌≡◌, ℕ, suc, ◌+◌, ◌<◌, ◌≤◌, [], length, get_or, vec_items, vec_len, sym, refl, ap, ◌∙◌, arith}
-use Rattle.std.specs.Vec.{with_item}
 use Rattle.book.specs.declared.cue.Cue.{Cue}
 use Rattle.links_theory.specs.Entries.{done}
 use Rattle.links_theory.proofs.Growth.{growing_short, growing_placed, growing_moved, done_same, done_more}
 use Rattle.links_theory.proofs.Parts.{cue_length, cues_length}
 use Rattle.links.specs.declared.table.Table.{Table}
-use Rattle.links.specs.Tables.{cues_in, Kept, Building}
+use Rattle.links.specs.Tables.{cues_in, Building}
 use Rattle.links.proofs.Steps.{kept_same, kept_cues, building_kept}
 use Rattle.links.proofs.table.Table.grow.Goals as goal
 
@@ -26,10 +25,8 @@ returns-then-k-cue-clause-building c =
     let long = length-read t c.args.k c.args.number cue b c.requires.number c.index-cue.ensures in
     let in' : c.args.number < length (cues_in t) = omega (arith, numbered t c.args.number c.requires.number, cues_length (vec_items t.signs) (vec_items t.cues)) in
     let cues = kept_cues t u told.kept in
-    let v : Table = record { signs = u.signs; cues = u.cues; nodes = u.nodes; heads = u.heads; places = with_item u.places c.args.number c.enter-at.result } in
-    let kept : Kept t v = record { signs = told.kept.signs; cues = told.kept.cues; nodes = told.kept.nodes; places = told.kept.places } in
     let g = growing_placed (cues_in u) (vec_items u.nodes) u.heads (vec_items u.places) c.args.k c.args.number c.enter-at.result told.growing (omega (arith, in', ap length cues)) told.within told.path in
-    building_kept t v c.args.k c.args.number (c.args.number + 1) b kept (growing_moved c.args.k (c.args.number + 1) (sym cues) refl refl refl g)
+    building_kept t _ c.args.k c.args.number (c.args.number + 1) b (record { signs = told.kept.signs; cues = told.kept.cues }) (growing_moved c.args.k (c.args.number + 1) (sym cues) refl refl refl g)
     (omega (arith, b.few, told.few, done_next c.args.k c.args.number t in' (omega (arith, long, c.if-k-cue.true))))
   where
     done_next : (k i : ℕ) (t : Table) → i < length (cues_in t) → k < length (get_or (cues_in t) i []) → done k (i + 1) (cues_in t) ≡ done k i (cues_in t) + 1

@@ -1,4 +1,4 @@
-use Rattle.std.proofs.Common.{◌+◌, ◌<◌, length, set, vec_items, sym, refl, ap, ◌∙◌, subst, arith}
+use Rattle.std.proofs.Common.{◌+◌, ◌<◌, length, set, vec_items, sym, ap, ◌∙◌, subst, arith}
 use Rattle.std.proofs.lemmas.List.{get_or_read}
 use Rattle.links_theory.specs.Entries.{root_node, marked, path, Marked}
 use Rattle.links_theory.proofs.Marks.{Grown, grown, grown_marked, marked_none, marked_more, ready}
@@ -12,7 +12,7 @@ loop-number-init c =
     let b = c.requires.building in (
       subst (Grown (cues_in t) (vec_items t.nodes) t.heads) (sym c.deref-at-items.ensures.value) (grown (cues_in t) (vec_items t.nodes) t.heads (vec_items t.places) b.growing (cue_short (vec_items t.signs) (vec_items t.cues) b.within)),
       marked_none (cues_in t) (vec_items t.nodes) b.growing.plain,
-      refl,
+      t.nodes_room,
     )
 
 pub loop-number-preserved : goal.loop-number-preserved

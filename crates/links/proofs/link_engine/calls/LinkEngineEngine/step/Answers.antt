@@ -14,7 +14,7 @@ walk-walk-requires c =
 pub invariant_of-self : goal.invariant_of-self
 invariant_of-self c =
     let e = c.args.self.now in
-    record { ready = ∣ moved e c.walk-walk.result.at c.walk-walk.ensures.within ∣₁; within = e.within; room = e.room }
+    record { ready = ∣ moved e c.walk-walk.result.at c.walk-walk.ensures.within ∣₁; within = e.within }
 
 -- the count, and the trait's bound on it
 counted : (a b n m k : ℕ) → a ≡ min (b + n) (2 ^ 32 - 1) → n + m ≤ k + 2 → a + m ≤ b + k + 2
