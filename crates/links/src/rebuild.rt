@@ -27,8 +27,6 @@ const ROOT: Node = Node {
 // One entry for each sign of the cues at most, and the root.
 const NODES: usize = LinkEngine::CAPACITY + 1;
 
-// `Roomy`, the memory of a table, is a fact of the engine, and asked for here: as a fact of the table it would be
-// proved again by each function that writes one entry.
 impl Table {
     // An empty table with memory for any book.
     pub(crate) fn reserve(heap: Global) -> Result<Table, AllocError> {
