@@ -1,5 +1,5 @@
 -- What the specifications say by recursion on a list, in the library's words for what iterators find.
-use Rattle.std.proofs.Common.{◌≡◌, ℕ, ◌+◌, Bool, true, false, cond, ◌&&◌, ◌||◌, eqb, ltb, List, [], ◌∷◌, length, sym, refl, ap, ◌∙◌, ⊎_elim, arith}
+use Rattle.std.proofs.Common.{◌≡◌, ℕ, ◌+◌, ◌%◌, ◌≤◌, Bool, true, false, cond, ◌&&◌, ◌||◌, eqb, ltb, List, [], ◌∷◌, length, sym, refl, ap, ◌∙◌, ⊎_elim, arith}
 use Rattle.std.specs.List.{sum_by, position, position_or_len, list_any, enumerate_from, zip}
 use Rattle.std.specs.Option.{MatchOption}
 use Rattle.std.proofs.lemmas.List.Recursion.{is_sum_by, is_position_or_len}
@@ -37,6 +37,24 @@ is_own same e q = eqb q.1.1 q.0 && same q.1.0 e
 -- The places from i on, each with its event and its sign.
 abbrev pub places : {E : Type 0} → ℕ → List E → List ℕ → List (ℕ × (E × ℕ))
 places i ms signs = enumerate_from i (zip ms signs)
+
+-- The same, told by 16 bits of the place.
+abbrev pub is_own_low : {E : Type 0} → (E → E → Bool) → E → ℕ × (E × ℕ) → Bool
+is_own_low same e q = eqb q.1.1 (q.0 % 65536) && same q.1.0 e
+
+low_or_len : {E : Type 0} (same : E → E → Bool) (e : E) (ms : List E) (signs : List ℕ) (i : ℕ) → i + length ms ≤ 65536 →
+    position_or_len (is_own_low same e) (places i ms signs) ≡ position_or_len (is_own same e) (places i ms signs)
+low_or_len same e [] signs i few = refl
+low_or_len same e (m ∷ ms) [] i few = refl
+low_or_len same e (m ∷ ms) (s ∷ signs) i few =
+    let low : i % 65536 ≡ i = omega arith in
+    let next = low_or_len same e ms signs (i + 1) (omega arith) in
+    grind (arith, low, next)
+
+-- Of few places 16 bits tell.
+pub low_position : {E : Type 0} (same : E → E → Bool) (e : E) (ms : List E) (signs : List ℕ) → length ms ≤ 65536 →
+    position (is_own_low same e) (places 0 ms signs) ≡ position (is_own same e) (places 0 ms signs)
+low_position same e ms signs few = let l = low_or_len same e ms signs 0 (omega (arith, few)) in grind (arith, l)
 
 look_position : {E : Type 0} (same : E → E → Bool) (e : E) (ms : List E) (signs : List ℕ) (i : ℕ) →
     look_from same i ms signs e ≡ cond (ltb (position_or_len (is_own same e) (places i ms signs)) (length (places i ms signs))) (position_or_len (is_own same e) (places i ms signs) + i) 2048

@@ -1,6 +1,6 @@
 // The calls on the material.
 
-ghost use Rattle.std.specs.Prelude.{◌≡◌, ◌≤◌, ◌<◌, ◌&&◌, [], length, take, zip, position, IfOk, IfSome, MatchOption, vec_len, ◌==◌};
+ghost use Rattle.std.specs.Prelude.{◌≡◌, ◌≤◌, ◌<◌, ◌%◌, ◌&&◌, [], length, take, zip, position, IfOk, IfSome, MatchOption, vec_len, ◌==◌};
 ghost use Rattle.std.specs.List.{enumerate_from};
 ghost use Rattle.matching.specs.Match.{same as equal};
 ghost use Rattle.book.specs.Cues.{part_of, Within};
@@ -61,6 +61,14 @@ impl<E: Event> Material<E> {
         sign_at(self.own_place_of(event))
     }
 
+    // The signs, cut at the number of the events, which is theirs too: so a walk along both lists tests one end and
+    // not two.
+    fn cut_signs(&self) -> &[u16]
+        ensures { result.now ≡ self.now.signs.items }
+    {
+        &self.signs[..self.events.len()]
+    }
+
     // The lowest place that is its own sign and has a same event.
     fn own_place_of(&self, event: &E) -> Option<usize>
         ensures inside { IfSome result (λ i. i < vec_len self.now.events) }
@@ -68,9 +76,9 @@ impl<E: Event> Material<E> {
     {
         self.events
             .iter()
-            .zip(&self.signs)
+            .zip(self.cut_signs())
             .enumerate()
-            .position(|(i, (m, s))| usize::from(*s) == i && m.same(event))
+            .position(|(i, (m, s))| is_at(*s, i) && m.same(event))
     }
 
     // The signs of a cue. `Within` is asked for here and below, and is no part of `Cue`: a place and a length are
@@ -90,6 +98,13 @@ impl<E: Event> Material<E> {
     {
         self.part(c) == self.part(given)
     }
+}
+
+// Whether a sign is this place. There are few places, so 16 bits tell, and the sign is compared where it stands.
+fn is_at(sign: u16, place: usize) -> bool
+    ensures { result ≡ (sign == place % 65536) }
+{
+    sign == (place % 65_536) as u16
 }
 
 // The sign of an event that has its first place here, or none.
