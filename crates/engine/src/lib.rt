@@ -27,6 +27,10 @@ pub trait Engine: Sized {
 
     ghost cost: { Self → ℕ };
 
+    // The capacity as an answer.
+    fn most() -> usize
+        ensures { result ≡ CAPACITY };
+
     // Takes the cues of a book, with nothing live.
     fn load<E: Event>(&mut self, book: &Book<E>) -> Result<(), Refusal>
         ensures value { result ≡ answer (load_refusal CAPACITY (cue_signs (book_held book.now))) tt }

@@ -21,8 +21,16 @@ impl Engine for BitEngine {
 
     ghost cost = { cost_of };
 
+    fn most() -> usize
+        ensures room { result ≡ 64 }
+        ensures constant { result ≡ ⟦<BitEngine as Engine>⟧.CAPACITY }
+    {
+        Self::CAPACITY
+    }
+
     fn load<E: Event>(&mut self, book: &Book<E>) -> Result<(), Refusal> {
-        if book.total() > Self::CAPACITY {
+        let room = Self::CAPACITY;
+        if book.total() > room {
             return Err(Refusal::OverCapacity);
         }
         self.clear();

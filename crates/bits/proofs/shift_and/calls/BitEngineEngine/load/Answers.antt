@@ -33,7 +33,7 @@ returns g c =
     let cues = parts_of b.material.signs.items b.cues.items in
     let n = c.loop-number.number in
     let inv = c.loop-number.invariant in
-    let few = le-ltb 64 (total cues) (omega (arith, c.if-total-gt-CAPACITY.false, c.total.ensures.signs)) in
+    let few = le-ltb 64 (total cues) (omega (arith, c.if-total-room.false, c.total.ensures.signs)) in
     let all : length cues ≤ n = omega (arith, ap length c.cues-number-end.ensures, length-map b.cues.items (part_of b.material.signs.items)) in
     record {
       value = ap (λ t. answer (cond t (Some OverCapacity) None) tt) (sym few);
