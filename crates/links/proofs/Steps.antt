@@ -9,13 +9,15 @@ use Rattle.links.specs.declared.table.Table.{Table}
 use Rattle.links.specs.Tables.{cues_in, Kept, Building}
 
 pub kept_same : (t : Table) → Kept t t
-kept_same t = record { signs = refl; cues = refl }
+kept_same t = record { signs = refl; cues = refl; nodes = refl; places = refl }
 
 pub kept_more : (t u v : Table) → Kept t u → Kept u v → Kept t v
 kept_more t u v p q =
     record {
       signs = q.signs ∙ p.signs;
       cues = q.cues ∙ p.cues;
+      nodes = q.nodes ∙ p.nodes;
+      places = q.places ∙ p.places;
     }
 
 pub kept_cues : (t u : Table) → Kept t u → cues_in u ≡ cues_in t
@@ -26,10 +28,10 @@ within_kept t u k w =
     subst (λ v. AllWithin (length (vec_items v)) (vec_items u.cues)) (sym k.signs) (subst (λ v. AllWithin (length (vec_items t.signs)) (vec_items v)) (sym k.cues) w)
 
 -- a build goes on in a table that has kept the cues
-pub building_kept : (t u : Table) (k i j : ℕ) → Building t k i → Kept t u → Growing (cues_in t) (vec_items u.nodes) u.heads (vec_items u.places) k j → length (vec_items u.nodes) ≤ 1 + done k j (cues_in t) → Building u k j
+pub building_kept : (t u : Table) (k i j : ℕ) → Building t k i → Kept t u → Growing (cues_in t) (vec_items u.nodes) u.heads.value (vec_items u.places) k j → length (vec_items u.nodes) ≤ 1 + done k j (cues_in t) → Building u k j
 building_kept t u k i j b e g few =
     record {
-      growing = subst (λ cs. Growing cs (vec_items u.nodes) u.heads (vec_items u.places) k j) (sym (kept_cues t u e)) g;
+      growing = subst (λ cs. Growing cs (vec_items u.nodes) u.heads.value (vec_items u.places) k j) (sym (kept_cues t u e)) g;
       few = subst (λ cs. length (vec_items u.nodes) ≤ 1 + done k j cs) (sym (kept_cues t u e)) few;
       fits = subst (λ cs. total cs ≤ 1024) (sym (kept_cues t u e)) b.fits;
       within = within_kept t u e b.within;
@@ -41,7 +43,7 @@ pub building_level : (t : Table) (k i : ℕ) → Building t k i → length (vec_
 building_level t k i b h =
     let long : length (cues_in t) ≤ i = omega (arith, h, cues_length (vec_items t.signs) (vec_items t.cues)) in
     record {
-      growing = growing_level (cues_in t) (vec_items t.nodes) t.heads (vec_items t.places) k i b.growing long;
+      growing = growing_level (cues_in t) (vec_items t.nodes) t.heads.value (vec_items t.places) k i b.growing long;
       few = omega (arith, b.few, done_all k i (cues_in t) long);
       fits = b.fits;
       within = b.within;

@@ -13,7 +13,7 @@ impl Table {
     fn set_link(&mut self, at: u16, to: u16)
         requires { at < vec_len self.old.nodes }
         ensures nodes { self.new.nodes.items ≡ slice_set self.old.nodes.items at (linked (node_at self.old.nodes.items at) to) }
-        ensures heads { self.new.heads ≡ self.old.heads }
+        ensures heads { self.new.heads.value ≡ self.old.heads.value }
         ensures places { self.new.places ≡ self.old.places }
         ensures kept { Kept self.old self.new }
     {
@@ -24,8 +24,8 @@ impl Table {
     fn add(&mut self, parent: u16, sign: u16, cue: u16, len: u16) -> u16
         requires { vec_len self.old.nodes ≤ 1024 }
         ensures value { result ≡ length self.old.nodes.items }
-        ensures nodes { self.new.nodes.items ≡ self.old.nodes.items ++ new_node parent sign (slice_index self.old.heads (slot_of parent sign)) 0 cue len ∷ [] }
-        ensures heads { self.new.heads ≡ slice_set self.old.heads (slot_of parent sign) (length self.old.nodes.items) }
+        ensures nodes { self.new.nodes.items ≡ self.old.nodes.items ++ new_node parent sign (slice_index self.old.heads.value (slot_of parent sign)) 0 cue len ∷ [] }
+        ensures heads { self.new.heads.value ≡ slice_set self.old.heads.value (slot_of parent sign) (length self.old.nodes.items) }
         ensures places { self.new.places ≡ self.old.places }
         ensures kept { Kept self.old self.new }
     {

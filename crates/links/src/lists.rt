@@ -1,4 +1,5 @@
-// Lists that are filled anew in the memory that they have.
+// Lists that are filled anew in the memory that they have. Each is filled by pushes within that memory:
+// `resize` and `extend_from_slice` say only that it gets no smaller.
 
 ghost use Rattle.std.specs.Prelude.{◌≡◌, ◌≤◌, length, replicate, vec_capacity};
 
@@ -6,18 +7,22 @@ ghost use Rattle.std.specs.Prelude.{◌≡◌, ◌≤◌, length, replicate, vec
 pub(crate) fn fill<T: Copy + Drop>(list: &mut Vec<T>, n: usize, value: T)
     requires { n ≤ vec_capacity list.old }
     ensures items { list.new.items ≡ replicate n value }
-    ensures room { vec_capacity list.old ≤ vec_capacity list.new }
+    ensures room { vec_capacity list.new ≡ vec_capacity list.old }
 {
     list.clear();
-    list.resize(n, value).unwrap();
+    for _ in 0..n {
+        list.push_reserved(value);
+    }
 }
 
 // Makes the list a copy of another.
 pub(crate) fn refill<T: Copy + Drop>(list: &mut Vec<T>, from: &[T])
     requires { length from.now ≤ vec_capacity list.old }
     ensures items { list.new.items ≡ from.now }
-    ensures room { vec_capacity list.old ≤ vec_capacity list.new }
+    ensures room { vec_capacity list.new ≡ vec_capacity list.old }
 {
     list.clear();
-    list.extend_from_slice(from).unwrap();
+    for x in from {
+        list.push_reserved(*x);
+    }
 }

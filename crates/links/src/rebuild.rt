@@ -3,7 +3,7 @@
 ghost use Rattle.std.specs.Prelude.{◌≡◌, true, vec_len};
 ghost use Rattle.book.specs.Cues.{AllWithin, parts_of};
 ghost use Rattle.matching.specs.Match.{distinct};
-ghost use Rattle.links.specs.Tables.{Building, Bookable, cues_in, Kept, ReadyIn};
+ghost use Rattle.links.specs.Tables.{Building, Bookable, cues_in, Kept, ReadyIn, SameRoom};
 
 use crate::link_engine::LinkEngine;
 use crate::lists::{fill, refill};
@@ -34,11 +34,12 @@ impl Table {
         let cues = Vec::with_capacity(heap, CUES)?;
         let nodes = Vec::with_capacity(heap, NODES)?;
         let places = Vec::with_capacity(heap, CUES)?;
+        let heads = Box::new(heap, [0; SLOTS])?;
         Ok(Table {
             signs,
             cues,
             nodes,
-            heads: [0; SLOTS],
+            heads,
             places,
         })
     }
@@ -49,11 +50,12 @@ impl Table {
         ensures building { Building self.new 0 0 }
         ensures signs { self.new.signs.items ≡ signs.now }
         ensures cues { self.new.cues.items ≡ cues.now }
+        ensures room { SameRoom self.old self.new }
     {
         refill(&mut self.signs, signs);
         refill(&mut self.cues, cues);
         fill(&mut self.nodes, 1, ROOT);
-        self.heads.fill(0);
+        *self.heads = [0; SLOTS];
         fill(&mut self.places, cues.len(), 0);
     }
 
@@ -62,6 +64,8 @@ impl Table {
         requires building { Building self.old 32 0 }
         requires apart { distinct (cues_in self.old) ≡ true }
         ensures ready { ReadyIn self.new 0 }
+        ensures heads { self.new.heads.value ≡ self.old.heads.value }
+        ensures places { self.new.places ≡ self.old.places }
         ensures kept { Kept self.old self.new }
     {
         for (number, at) in self.places.iter().enumerate() {
@@ -75,6 +79,7 @@ impl Table {
         ensures ready { ReadyIn self.new 0 }
         ensures cues { cues_in self.new ≡ parts_of signs.now cues.now }
         ensures within { AllWithin (vec_len self.new.signs) self.new.cues.items }
+        ensures room { SameRoom self.old self.new }
     {
         self.begin(signs, cues);
         self.build();

@@ -17,8 +17,9 @@ pub(crate) struct Table {
     pub(crate) cues: Vec<Cue>,
     pub(crate) nodes: Vec<Node>,
     // The newest entry of each chain of a hash table over (parent, sign). 0 ends a chain: entry 0 is the
-    // root, which no chain has, so an Option would take twice the memory and bring no check.
-    pub(crate) heads: [u16; SLOTS],
+    // root, which no chain has, so an Option would take twice the memory and bring no check. In a box, so that a
+    // table is small where it is moved.
+    pub(crate) heads: Box<[u16; SLOTS]>,
     // While the table is built: the entry of the first signs of each cue. It stands beside `cues`, since
     // those are copied from the book as they are.
     pub(crate) places: Vec<u16>,

@@ -2,7 +2,7 @@
 
 ghost use Rattle.std.specs.Prelude.{◌≡◌, ◌+◌, ◌<◌, ◌≤◌, min, [], ◌∷◌, ◌++◌, length, take, IfOk, None, vec_len, slice_index_or};
 ghost use Rattle.book.specs.Cues.{answer};
-ghost use Rattle.matching.specs.Match.{live as live_of, sightings, tries};
+ghost use Rattle.matching.specs.Match.{live as live_of, tries};
 ghost use Rattle.engine.specs.Statements.{named, resume_refusal};
 ghost use Rattle.links_theory.specs.Entries.{path};
 ghost use Rattle.links.specs.Engines.{engine_cues, engine_live};
@@ -85,13 +85,14 @@ impl LinkEngine {
         self.descend(usize::from(standing.0), usize::from(standing.1))
     }
 
-    // The sightings of the live beginning, the longest first.
-    fn sightings(&self) -> Sightings<'_>
-        ensures { seen_at result.table.now result.at ≡ sightings (engine_cues self.now) (engine_live self.now) }
+    // The sightings of an entry, the longest first.
+    fn sightings(&self, from: u16) -> Sightings<'_>
+        requires { from < vec_len self.now.table.nodes }
+        ensures { seen_at result.table.now result.at ≡ seen_at self.now.table from }
     {
         Sightings {
             table: &self.table,
-            at: self.at,
+            at: from,
         }
     }
 }
@@ -106,6 +107,13 @@ impl Engine for LinkEngine {
     ghost live = { engine_live };
 
     ghost cost = { λ e. e.trials };
+
+    fn most() -> usize
+        ensures room { result ≡ 1024 }
+        ensures constant { result ≡ ⟦<LinkEngine as Engine>⟧.CAPACITY }
+    {
+        Self::CAPACITY
+    }
 
     fn load<E: Event>(&mut self, book: &Book<E>) -> Result<(), Refusal> {
         if book.total() > Self::CAPACITY {
@@ -133,12 +141,12 @@ impl Engine for LinkEngine {
     }
 
     fn sighted(&self) -> usize {
-        self.sightings().count()
+        self.sightings(self.at).count()
     }
 
     fn sighting(&self, i: usize) -> Option<(u16, u16)> {
         let before = i.checked_sub(1)?;
-        self.sightings().nth(before)
+        self.sightings(self.at).nth(before)
     }
 
     fn standing(&self) -> (u16, u16) {

@@ -28,7 +28,7 @@ pub loop-sign-init : goal.loop-sign-init
 loop-sign-init c =
     let e = c.args.self.now in
     let s = (opened e).sound in
-    (s.some, path_root (engine_cues e) (vec_items e.table.nodes) e.table.heads s)
+    (s.some, path_root (engine_cues e) (vec_items e.table.nodes) e.table.heads.value s)
 
 pub child-requires : goal.child-requires
 child-requires c = (opened c.args.self.now).sound
@@ -37,11 +37,11 @@ pub unwrap-at-requires : goal.unwrap-at-requires
 unwrap-at-requires c =
     let e = c.args.self.now in
     let s = read e c.args.number c.args.len c.loop-sign.sign-index c.index.result.now c.deref.result.now c.requires.number c.requires.len c.index.ensures c.deref.ensures.value c.loop-sign-test.true in
-    some_of c.child.result _ c.child.ensures.none (descend_child (engine_cues e) (vec_items e.table.nodes) e.table.heads e.at (opened e) c.args.number c.loop-sign.at c.loop-sign.sign-index _ c.requires.number c.loop-sign.invariant.0 c.loop-sign.invariant.1 (omega (arith, s.0, c.requires.len)) s.1)
+    some_of c.child.result _ c.child.ensures.none (descend_child (engine_cues e) (vec_items e.table.nodes) e.table.heads.value e.at (opened e) c.args.number c.loop-sign.at c.loop-sign.sign-index _ c.requires.number c.loop-sign.invariant.0 c.loop-sign.invariant.1 (omega (arith, s.0, c.requires.len)) s.1)
 
 pub loop-sign-preserved : goal.loop-sign-preserved
 loop-sign-preserved c =
     let e = c.args.self.now in
     let s = read e c.args.number c.args.len c.loop-sign.sign-index c.index.result.now c.deref.result.now c.requires.number c.requires.len c.index.ensures c.deref.ensures.value c.loop-sign-test.true in
     let found = MatchOption-at_some _ _ c.unwrap-at.result c.unwrap-at.ensures c.child.ensures.some in
-    (found.1.within, descend_more (engine_cues e) (vec_items e.table.nodes) e.table.heads e.at (opened e) c.args.number c.loop-sign.at c.loop-sign.sign-index _ c.requires.number c.loop-sign.invariant.0 c.loop-sign.invariant.1 (omega (arith, s.0, c.requires.len)) s.1 c.unwrap-at.result found.1 found.0)
+    (found.1.within, descend_more (engine_cues e) (vec_items e.table.nodes) e.table.heads.value e.at (opened e) c.args.number c.loop-sign.at c.loop-sign.sign-index _ c.requires.number c.loop-sign.invariant.0 c.loop-sign.invariant.1 (omega (arith, s.0, c.requires.len)) s.1 c.unwrap-at.result found.1 found.0)

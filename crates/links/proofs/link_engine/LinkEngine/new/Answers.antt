@@ -7,4 +7,4 @@ pub returns : goal.returns
 returns c =
     let told = c.rebuild.ensures in
     let t = c.rebuild.new.self in
-    (told.cues, path_root (cues_in t) (vec_items t.nodes) t.heads told.ready.sound, refl)
+    (told.cues, path_root (cues_in t) (vec_items t.nodes) t.heads.value told.ready.sound, refl)

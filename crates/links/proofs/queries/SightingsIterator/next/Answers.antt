@@ -14,13 +14,13 @@ module _ (s : Sightings) (at : ℕ) (n : Node) (p : 0 < at) (h : at < length (ve
 
   seen : (o : Option ℕ) → n.whole ≡ o → seen_at s.table.now at ≡ exact_of o n.len ++ seen_at s.table.now n.link
   seen o is =
-      sightings_entry (cues_in s.table.now) (vec_items s.table.now.nodes) s.table.now.heads s.at (ready_table s.table.now s.at s.ready) at p h ∙ ap (λ m. exact_of m.whole m.len ++ seen_at s.table.now m.link) (sym e) ∙ ap (λ x. exact_of x n.len ++ seen_at s.table.now n.link) is
+      sightings_entry (cues_in s.table.now) (vec_items s.table.now.nodes) s.table.now.heads.value s.at (ready_table s.table.now s.at s.ready) at p h ∙ ap (λ m. exact_of m.whole m.len ++ seen_at s.table.now m.link) (sym e) ∙ ap (λ x. exact_of x n.len ++ seen_at s.table.now n.link) is
 
 pub invariant_of-self : goal.invariant_of-self
 invariant_of-self c =
     let s = c.loop-at.self in
     let old = older s c.loop-at.at c.node-node.result (omega (arith, c.loop-at-test.true)) c.loop-at.invariant.0 c.node-node.ensures in
-    record { ready = ∣ ready_there s.table.now s.at c.node-node.result.link (ready_table s.table.now s.at s.ready) (omega (arith, old, c.loop-at.invariant.0)) ∣₁ }
+    record { ready = ∣ ready_there s.table.now s.at _ (ready_table s.table.now s.at s.ready) (omega (arith, old, c.loop-at.invariant.0)) ∣₁ }
 
 pub returns-in-Some-clause-steps : goal.returns-in-Some-clause-steps
 returns-in-Some-clause-steps c =
@@ -32,7 +32,9 @@ returns-in-Some-clause-goes c =
     record { on = λ f. (tt, tt, omega (arith, fewer)); keeps = tt; rests = λ f. tt }
 
 pub loop-at-smaller : goal.loop-at-smaller
-loop-at-smaller c = older c.loop-at.self c.loop-at.at c.node-node.result (omega (arith, c.loop-at-test.true)) c.loop-at.invariant.0 c.node-node.ensures
+loop-at-smaller c =
+    let old = older c.loop-at.self c.loop-at.at c.node-node.result (omega (arith, c.loop-at-test.true)) c.loop-at.invariant.0 c.node-node.ensures in
+    omega (arith, old)
 
 pub loop-at-preserved : goal.loop-at-preserved
 loop-at-preserved c =
@@ -50,5 +52,5 @@ invariant_of-self-2 c =
 pub returns-clause-steps : goal.returns-clause-steps
 returns-clause-steps c =
     let s = c.loop-at.self in
-    let none = sightings_root (cues_in s.table.now) (vec_items s.table.now.nodes) s.table.now.heads s.at (ready_table s.table.now s.at s.ready) in
+    let none = sightings_root (cues_in s.table.now) (vec_items s.table.now.nodes) s.table.now.heads.value s.at (ready_table s.table.now s.at s.ready) in
     (sym c.loop-at.invariant.1 ∙ ap (seen_at s.table.now) c.loop-at-test.false ∙ none, none)

@@ -11,13 +11,12 @@ returns-clause-building c =
     let signs = c.refill.ensures.items in
     let cues = c.refill-2.ensures.items in
     let nodes = c.fill.ensures.items in
-    let heads = c.fill-2.ensures.after (λ y e. e) ∙ ap (λ n. replicate n zero) (let n : length c.args.self.now.heads ≡ 1024 = omega arith in n) in
-    let places = c.fill-3.ensures.items in
+    let places = c.fill-2.ensures.items in
     let book = c.requires in
     let all = ap (λ xs. parts_of xs (vec_items c.refill-2.new.list)) signs ∙ ap (parts_of c.args.signs.now) cues in
     let none : length (vec_items c.fill.new.list) ≡ 1 = ap length nodes in
     record {
-      growing = subst (λ cs. Growing cs (vec_items c.fill.new.list) c.fill-2.new.self (vec_items c.fill-3.new.list) 0 0) (sym all) (growing_moved 0 0 refl nodes heads (places ∙ ap (λ n. replicate n zero) (sym (cues_length c.args.signs.now c.args.cues.now))) (growing_none (parts_of c.args.signs.now c.args.cues.now)));
+      growing = subst (λ cs. Growing cs (vec_items c.fill.new.list) (replicate 1024 zero) (vec_items c.fill-2.new.list) 0 0) (sym all) (growing_moved 0 0 refl nodes refl (places ∙ ap (λ n. replicate n zero) (sym (cues_length c.args.signs.now c.args.cues.now))) (growing_none (parts_of c.args.signs.now c.args.cues.now)));
       few = omega (arith, none);
       fits = subst (λ cs. total cs ≤ 1024) (sym all) book.fits;
       within = subst (λ xs. AllWithin (length xs) (vec_items c.refill-2.new.list)) (sym signs) (subst (AllWithin (length c.args.signs.now)) (sym cues) book.within);

@@ -29,7 +29,7 @@ pub link_from-link-requires-clause-full : goal.link_from-link-requires-clause-fu
 link_from-link-requires-clause-full c =
     let t = c.args.self.now in
     let b = c.requires.building in
-    let n = parent_len (cues_in t) (vec_items t.nodes) t.heads (vec_items t.places) c.args.k c.args.number b.growing c.requires.number c.requires.longer (short t c.args.k c.args.number b) c.index-parent.result.now c.args.sign (place_read t c.args.k c.args.number c.index-parent.result.now b c.requires.number c.index-parent.ensures) c.requires.sign in
+    let n = parent_len (cues_in t) (vec_items t.nodes) t.heads.value (vec_items t.places) c.args.k c.args.number b.growing c.requires.number c.requires.longer (short t c.args.k c.args.number b) c.index-parent.result.now c.args.sign (place_read t c.args.k c.args.number c.index-parent.result.now b c.requires.number c.index-parent.ensures) c.requires.sign in
     complete_less (cues_in t) (vec_items t.nodes) _ c.args.k (omega (arith, n)) b.growing.complete
 
 pub overflow_cast-k : goal.overflow_cast-k
@@ -66,8 +66,8 @@ returns c =
     let to = c.link_from-link.result in
     let w : to < length (vec_items t.nodes) = omega (arith, c.link_from-link.ensures.within, t.nodes.ok.0) in
     let nodes = link_last (vec_items t.nodes) (vec_items u.nodes) (vec_items v.nodes) _ c.add-at.result to told.nodes told.value set.nodes in
-    let g = growing_more (cues_in t) (vec_items t.nodes) t.heads (vec_items t.places) c.args.k c.args.number b.growing c.requires.number c.requires.longer (short t c.args.k c.args.number b) c.index-parent.result.now c.args.sign (place_read t c.args.k c.args.number c.index-parent.result.now b c.requires.number c.index-parent.ensures) c.requires.sign f to w c.link_from-link.ensures.link in
-    let last = made_last (cues_in t) (vec_items t.nodes) t.heads (vec_items t.places) c.args.k c.args.number b.growing c.requires.number c.requires.longer (short t c.args.k c.args.number b) c.index-parent.result.now c.args.sign (place_read t c.args.k c.args.number c.index-parent.result.now b c.requires.number c.index-parent.ensures) c.requires.sign f to w c.link_from-link.ensures.link in
+    let g = growing_more (cues_in t) (vec_items t.nodes) t.heads.value (vec_items t.places) c.args.k c.args.number b.growing c.requires.number c.requires.longer (short t c.args.k c.args.number b) c.index-parent.result.now c.args.sign (place_read t c.args.k c.args.number c.index-parent.result.now b c.requires.number c.index-parent.ensures) c.requires.sign f to w c.link_from-link.ensures.link in
+    let last = made_last (cues_in t) (vec_items t.nodes) t.heads.value (vec_items t.places) c.args.k c.args.number b.growing c.requires.number c.requires.longer (short t c.args.k c.args.number b) c.index-parent.result.now c.args.sign (place_read t c.args.k c.args.number c.index-parent.result.now b c.requires.number c.index-parent.ensures) c.requires.sign f to w c.link_from-link.ensures.link in
     let long = pushed _ _ _ nodes in
     let cues = kept_cues t v kept in
     let heads = set.heads ∙ told.heads in

@@ -25,8 +25,8 @@ returns-then-k-cue-clause-building c =
     let long = length-read t c.args.k c.args.number cue b c.requires.number c.index-cue.ensures in
     let in' : c.args.number < length (cues_in t) = omega (arith, numbered t c.args.number c.requires.number, cues_length (vec_items t.signs) (vec_items t.cues)) in
     let cues = kept_cues t u told.kept in
-    let g = growing_placed (cues_in u) (vec_items u.nodes) u.heads (vec_items u.places) c.args.k c.args.number c.enter-at.result told.growing (omega (arith, in', ap length cues)) told.within told.path in
-    building_kept t _ c.args.k c.args.number (c.args.number + 1) b (record { signs = told.kept.signs; cues = told.kept.cues }) (growing_moved c.args.k (c.args.number + 1) (sym cues) refl refl refl g)
+    let g = growing_placed (cues_in u) (vec_items u.nodes) u.heads.value (vec_items u.places) c.args.k c.args.number c.enter-at.result told.growing (omega (arith, in', ap length cues)) told.within told.path in
+    building_kept t _ c.args.k c.args.number (c.args.number + 1) b (record { signs = told.kept.signs; cues = told.kept.cues; nodes = told.kept.nodes; places = told.kept.places }) (growing_moved c.args.k (c.args.number + 1) (sym cues) refl refl refl g)
     (omega (arith, b.few, told.few, done_next c.args.k c.args.number t in' (omega (arith, long, c.if-k-cue.true))))
   where
     done_next : (k i : ℕ) (t : Table) → i < length (cues_in t) → k < length (get_or (cues_in t) i []) → done k (i + 1) (cues_in t) ≡ done k i (cues_in t) + 1
@@ -39,7 +39,7 @@ returns-else-k-cue-clause-building c =
     let long = length-read t c.args.k c.args.number c.index-cue.result.now b c.requires.number c.index-cue.ensures in
     let short : length (get_or (cues_in t) c.args.number []) ≤ c.args.k = omega (arith, long, c.if-k-cue.false) in
     building_kept t t c.args.k c.args.number (c.args.number + 1) b (kept_same t)
-    (growing_short (cues_in t) (vec_items t.nodes) t.heads (vec_items t.places) c.args.k c.args.number b.growing short)
+    (growing_short (cues_in t) (vec_items t.nodes) t.heads.value (vec_items t.places) c.args.k c.args.number b.growing short)
     (omega (arith, b.few, done_next c.args.k c.args.number t short))
   where
     done_next : (k i : ℕ) (t : Table) → length (get_or (cues_in t) i []) ≤ k → done k (i + 1) (cues_in t) ≡ done k i (cues_in t)

@@ -13,4 +13,4 @@ pub returns-clause-held : goal.returns-clause-held
 returns-clause-held g c =
     let told = c.rebuild.ensures in
     let t = c.rebuild.new.self in
-    (read _ _ _ _ _ told.cues c.signs.ensures c.cues.ensures, path_root (cues_in t) (vec_items t.nodes) t.heads told.ready.sound, refl)
+    (read _ _ _ _ _ told.cues c.signs.ensures c.cues.ensures, path_root (cues_in t) (vec_items t.nodes) t.heads.value told.ready.sound, refl)

@@ -10,5 +10,5 @@ count-requires-clause-fits c =
     let s = c.sightings.result in
     let t = s.table.now in
     let r = ready_table t s.at s.ready in
-    let few = sightings_few (cues_in t) (vec_items t.nodes) t.heads s.at r 32 s.at r.within (len_short (cues_in t) (vec_items t.nodes) t.heads r.sound s.at r.within) in
+    let few = sightings_few (cues_in t) (vec_items t.nodes) t.heads.value s.at r 32 s.at r.within (len_short (cues_in t) (vec_items t.nodes) t.heads.value r.sound s.at r.within) in
     inl (omega (arith, few))

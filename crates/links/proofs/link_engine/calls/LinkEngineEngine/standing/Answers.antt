@@ -7,4 +7,4 @@ use Rattle.links.proofs.link_engine.calls.LinkEngineEngine.standing.Goals as goa
 pub returns : goal.returns
 returns c =
     let e = c.args.self.now in
-    ap (λ n. (n.cue, n.len)) c.node-node.ensures ∙ standing_entry (cues_in e.table) (vec_items e.table.nodes) e.table.heads (opened e).sound e.at (opened e).within
+    ap (λ n. (n.cue, n.len)) c.node-node.ensures ∙ standing_entry (cues_in e.table) (vec_items e.table.nodes) e.table.heads.value (opened e).sound e.at (opened e).within
