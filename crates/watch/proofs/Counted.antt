@@ -1,7 +1,7 @@
 -- How many cues end a list, and whether each has few endings.
 use Rattle.std.proofs.Common.{◌≡◌, ℕ, zero, suc, ◌+◌, ◌≤◌, Bool, true, false, ◌&&◌, leb, List, [], ◌∷◌, map, length, get_or, take, drop, sym, refl, ap, ◌∙◌, ⊎_elim, arith, length-append}
 use Rattle.std.specs.List.{filter, list_all, range_with_len}
-use Rattle.std.proofs.lemmas.List.{drop_more, take_all}
+use Rattle.std.proofs.lemmas.List.{drop_all, drop_more, take_all}
 use Rattle.std.proofs.lemmas.Bool.{cases_Bool}
 use Rattle.matching.specs.Calls.{few_endings}
 use Rattle.matching.specs.Match.{ends, exact, filled, same, sightings}
@@ -40,10 +40,14 @@ pub passed_map : {X Y : Type 0} (p : Y → Bool) (f : X → Y) (xs : List X) →
 passed_map p f [] = refl
 passed_map p f (x ∷ xs) = grind (arith, passed_map p f xs)
 
+-- Behind the last cue each has few endings.
+pub few_all : (cues : List (List ℕ)) (i : ℕ) → length cues ≤ i → few_endings cues (drop i cues) ≡ true
+few_all cues i h = ap (few_endings cues) (drop_all i cues h)
+
 -- Whether each has few endings, as one test of all.
-pub few_all : (cues cs : List (List ℕ)) → few_endings cues cs ≡ list_all (λ c. leb (length (sightings cues c)) 32) cs
-few_all cues [] = refl
-few_all cues (c ∷ cs) = ap (λ t. leb (length (sightings cues c)) 32 && t) (few_all cues cs)
+pub few_listed : (cues cs : List (List ℕ)) → few_endings cues cs ≡ list_all (λ c. leb (length (sightings cues c)) 32) cs
+few_listed cues [] = refl
+few_listed cues (c ∷ cs) = ap (λ t. leb (length (sightings cues c)) 32 && t) (few_listed cues cs)
 
 -- The items at some numbers in a row.
 items_from : {X : Type 0} (xs : List X) (d : X) (a n : ℕ) → a + n ≤ length xs → map (λ i. get_or xs i d) (range_with_len a n) ≡ take n (drop a xs)

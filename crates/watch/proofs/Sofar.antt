@@ -42,26 +42,29 @@ entries_placed : (p : ℕ) (seen : List (ℕ × ℕ)) → map entry_of (placed p
 entries_placed p [] = refl
 entries_placed p (q ∷ seen) = ap (λ z. entry_at p q ∷ z) (entries_placed p seen)
 
--- Where no obstacle is, enough entries are free.
+-- Where no obstacle is, the text has room and enough entries are free.
+text_short : (len free : ℕ) → None ≡ obstacle len free → len < longest_text
+text_short len free h = grind (arith, h)
+
 pub free_enough : (len free : ℕ) → None ≡ obstacle len free → 32 ≤ free
 free_enough len free h = grind (arith, h)
 
 module _ (cues : List (List ℕ)) (b : List ℕ) (len cost : ℕ) (signs : List ℕ) (old : List Entry) where
   -- One event more.
-  pub sofar_step : {i written : ℕ} {cues' : List (List ℕ)} {b' : List ℕ} {len' cost' : ℕ} {new : List Entry} → Sofar cues b len cost signs old i written cues' b' len' cost' new →
-      (cues'' : List (List ℕ)) (b'' : List ℕ) (len'' cost'' written'' : ℕ) (new'' : List Entry) (s : ℕ) → i < length signs → s ≡ get_or signs i 0 → None ≡ obstacle len' (length old - written) →
+  pub sofar_more : {i written : ℕ} {cues' : List (List ℕ)} {b' : List ℕ} {len' cost' : ℕ} {new : List Entry} → Sofar cues b len cost signs old i written cues' b' len' cost' new →
+      (cues'' : List (List ℕ)) (b'' : List ℕ) (len'' cost'' written'' : ℕ) (new'' : List Entry) (s : ℕ) → i < length signs → s ≡ get_or signs i 0 → len' < longest_text → written + 32 ≤ length old →
       cues'' ≡ cues' → b'' ≡ live cues' (b' ++ s ∷ []) → len'' ≡ len' + 1 → cost'' + length b'' ≤ cost' + length b' + 2 →
       written'' ≡ written + length (sightings cues (b' ++ s ∷ [])) →
-      new'' ≡ take written new ++ (map (entry_at len') (sightings cues (b' ++ s ∷ [])) ++ drop (length (sightings cues (b' ++ s ∷ []))) (drop written new)) →
+      new'' ≡ take written new ++ (map (entry_at len') (sightings cues (b' ++ s ∷ [])) ++ drop written'' new) →
       Sofar cues b len cost signs old (i + 1) written'' cues'' b'' len'' cost'' new''
-  sofar_step {i} {written} {cues'} {b'} {len'} {cost'} {new} h cues'' b'' len'' cost'' written'' new'' s more is none same'' went'' long'' cheap'' index list =
+  sofar_more {i} {written} {cues'} {b'} {len'} {cost'} {new} h cues'' b'' len'' cost'' written'' new'' s more is room free same'' went'' long'' cheap'' index list =
       let seen = sightings cues (b' ++ s ∷ []) in
       let left = length old - written in
       let next = drop (i + 1) signs in
       let at : b'' ≡ live cues (b' ++ s ∷ []) = went'' ∙ ap (λ cs. live cs (b' ++ s ∷ [])) h.same in
       let cut : drop i signs ≡ s ∷ next = drop_more signs i 0 more ∙ ap (λ x. x ∷ next) (sym is) in
-      let can : ltb len' longest_text ≡ true = grind (arith, none) in
-      let roomy : leb 32 left ≡ true = grind (arith, none) in
+      let can : ltb len' longest_text ≡ true = lt-ltb len' longest_text room in
+      let roomy : leb 32 left ≡ true = le-leb 32 left (omega arith) in
       let both : (ltb len' longest_text && leb 32 left) ≡ true = ap (λ t. t && leb 32 left) can ∙ roomy in
       let fewer : left - length seen ≡ length old - written'' = omega arith in
       let e1 : entries_at cues (live cues (b' ++ s ∷ [])) (len' + 1) (left - length seen) next ≡ entries_at cues b'' len'' (length old - written'') next = cc in
@@ -77,7 +80,8 @@ module _ (cues : List (List ℕ)) (b : List ℕ) (len cost : ℕ) (signs : List 
       let size : length front ≡ written = length-map h.done entry_of ∙ sym h.count in
       let kept : take written new ≡ front = ap (take written) h.wrote ∙ take_at front (drop written old) written size in
       let past : drop written new ≡ drop written old = ap (drop written) h.wrote ∙ drop_at front (drop written old) written size in
-      let tail : drop (length seen) (drop written new) ≡ drop written'' old = ap (drop (length seen)) past ∙ (drop-drop (length seen) written old ∙ ap (λ k. drop k old) (sym index)) in
+      let tail : drop written'' new ≡ drop written'' old =
+      ap (λ k. drop k new) index ∙ (sym (drop-drop (length seen) written new) ∙ (ap (drop (length seen)) past ∙ (drop-drop (length seen) written old ∙ ap (λ k. drop k old) (sym index)))) in
       let both-parts : map entry_of (h.done ++ placed len' seen) ≡ front ++ map (entry_at len') seen = map-append entry_of h.done (placed len' seen) ∙ ap (λ z. front ++ z) (entries_placed len' seen) in
       record {
         same = same'' ∙ h.same;
@@ -86,26 +90,25 @@ module _ (cues : List (List ℕ)) (b : List ℕ) (len cost : ℕ) (signs : List 
         cheap = omega (arith, cheap'', h.cheap);
         done = h.done ++ placed len' seen;
         count = omega (arith, index, h.count, length-append h.done (placed len' seen), length_placed len' seen);
-        wrote = list ∙ (ap (λ z. z ++ (map (entry_at len') seen ++ drop (length seen) (drop written new))) kept ∙ (ap (λ z. front ++ (map (entry_at len') seen ++ z)) tail ∙ (sym (append_assoc front (map (entry_at len') seen) (drop written'' old)) ∙ ap (λ z. z ++ drop written'' old) (sym both-parts))));
+        wrote = list ∙ (ap (λ z. z ++ (map (entry_at len') seen ++ drop written'' new)) kept ∙ (ap (λ z. front ++ (map (entry_at len') seen ++ z)) tail ∙ (sym (append_assoc front (map (entry_at len') seen) (drop written'' old)) ∙ ap (λ z. z ++ drop written'' old) (sym both-parts))));
         rest = append_assoc h.done (placed len' seen) (entries_at cues b'' len'' (length old - written'') next) ∙ (ap (λ z. h.done ++ z) (sym e) ∙ h.rest);
         taken = omega (arith, f, h.taken);
         ended = sym g ∙ h.ended;
       }
 
-  -- The same, where the text has room and 32 entries are free.
-  pub sofar_more : {i written : ℕ} {cues' : List (List ℕ)} {b' : List ℕ} {len' cost' : ℕ} {new : List Entry} → Sofar cues b len cost signs old i written cues' b' len' cost' new →
-      (cues'' : List (List ℕ)) (b'' : List ℕ) (len'' cost'' written'' : ℕ) (new'' : List Entry) (s : ℕ) → i < length signs → s ≡ get_or signs i 0 → len' < longest_text → written + 32 ≤ length old →
+  -- The same, where no obstacle is and the entries behind those written are a list of their own.
+  pub sofar_step : {i written : ℕ} {cues' : List (List ℕ)} {b' : List ℕ} {len' cost' : ℕ} {new : List Entry} → Sofar cues b len cost signs old i written cues' b' len' cost' new →
+      (cues'' : List (List ℕ)) (b'' : List ℕ) (len'' cost'' written'' : ℕ) (new'' : List Entry) (s : ℕ) → i < length signs → s ≡ get_or signs i 0 → None ≡ obstacle len' (length old - written) →
       cues'' ≡ cues' → b'' ≡ live cues' (b' ++ s ∷ []) → len'' ≡ len' + 1 → cost'' + length b'' ≤ cost' + length b' + 2 →
       written'' ≡ written + length (sightings cues (b' ++ s ∷ [])) →
-      new'' ≡ take written new ++ (map (entry_at len') (sightings cues (b' ++ s ∷ [])) ++ drop written'' new) →
+      new'' ≡ take written new ++ (map (entry_at len') (sightings cues (b' ++ s ∷ [])) ++ drop (length (sightings cues (b' ++ s ∷ []))) (drop written new)) →
       Sofar cues b len cost signs old (i + 1) written'' cues'' b'' len'' cost'' new''
-  sofar_more {i} {written} {cues'} {b'} {len'} {cost'} {new} h cues'' b'' len'' cost'' written'' new'' s more is room free same'' went'' long'' cheap'' index list =
+  sofar_step {i} {written} {cues'} {b'} {len'} {cost'} {new} h cues'' b'' len'' cost'' written'' new'' s more is none same'' went'' long'' cheap'' index list =
       let seen = sightings cues (b' ++ s ∷ []) in
-      let can = lt-ltb len' longest_text room in
-      let roomy : leb 32 (length old - written) ≡ true = le-leb 32 (length old - written) (omega arith) in
-      let none : None ≡ obstacle len' (length old - written) = grind (arith, can, roomy) in
-      let behind : drop written'' new ≡ drop (length seen) (drop written new) = ap (λ k. drop k new) index ∙ sym (drop-drop (length seen) written new) in
-      sofar_step h cues'' b'' len'' cost'' written'' new'' s more is none same'' went'' long'' cheap'' index
+      let room = text_short len' (length old - written) none in
+      let free : written + 32 ≤ length old = omega (arith, free_enough len' (length old - written) none) in
+      let behind : drop (length seen) (drop written new) ≡ drop written'' new = drop-drop (length seen) written new ∙ ap (λ k. drop k new) (sym index) in
+      sofar_more h cues'' b'' len'' cost'' written'' new'' s more is room free same'' went'' long'' cheap'' index
       (list ∙ ap (λ z. take written new ++ (map (entry_at len') seen ++ z)) behind)
 
   -- What is so when it ends: the answers, from what was live and the length of the text.

@@ -6,8 +6,9 @@ use Rattle.book.specs.declared.entry.Entry.{Entry}
 use Rattle.matching.specs.Match.{sightings}
 use Rattle.watch.specs.Following.{entry_at, WroteFirst}
 
--- The first i sightings are written, and the rest is as it was.
+-- The first i sightings are written within the list, and the rest is as it was.
 pub record WrittenUpTo (place : ℕ) (seen : List (ℕ × ℕ)) (old new : List Entry) (i : ℕ) : Type 0 where
+  pub within : i ≤ length old
   pub front : take i new ≡ map (entry_at place) (take i seen)
   pub rest : drop i new ≡ drop i old
 

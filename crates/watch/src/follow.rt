@@ -22,15 +22,18 @@ fn write_sightings<L: Engine>(engine: &L, place: u32, free: &mut [Entry]) -> usi
     ensures bound { result ≤ length free.old }
     ensures wrote { WroteFirst (L.Engine.cues engine.now) (L.Engine.live engine.now) place free.old free.new result }
 {
-    // By index: while `iter_mut().enumerate().take(written)` is under way, an invariant cannot speak of the list
-    // that is written, and the proof does not close.
-    let written = engine.sighted().min(free.len());
-    for i in 0..written {
+    // By index: while `iter_mut().enumerate()` is under way, an invariant cannot speak of the list that is
+    // written, and the proof does not close.
+    let sighted = engine.sighted();
+    for i in 0..sighted {
+        if i >= free.len() {
+            return i;
+        }
         if let Some((cue, len)) = engine.sighting(i + 1) {
             free[i] = Entry { place, cue, len };
         }
     }
-    written
+    sighted
 }
 
 impl<L: Engine> Watch<L> {

@@ -7,7 +7,7 @@ use Rattle.std.proofs.lemmas.List.Folds.{list_all-map}
 use Rattle.book.specs.Held.{book_held, cue_signs}
 use Rattle.matching.specs.Match.{sightings}
 use Rattle.watch.proofs.Books.{cues_long}
-use Rattle.watch.proofs.Counted.{few_all, items_all}
+use Rattle.watch.proofs.Counted.{few_listed, items_all}
 use Rattle.watch.proofs.endings.has_few_endings.Goals as goal
 
 pub returns : goal.returns
@@ -18,4 +18,4 @@ returns g c =
     all_from_yields_List (λ i. few (get_or cues i [])) _ _ _ c.all.ensures.ran (YieldsList-from_range 0 n n refl (omega arith)) (λ x b q k. search (rules, le-leb, lt-leb)) ∙
     (sym (list_all-map few (λ i. get_or cues i []) (range_with_len 0 n)) ∙
     (ap (list_all few) (items_all cues [] n (sym (cues_long c.args.book.now c.cues.result.now c.cues.ensures))) ∙
-    sym (few_all cues cues)))
+    sym (few_listed cues cues)))
