@@ -1,6 +1,7 @@
 -- Cues by their lengths, listed one by one.
-use Rattle.std.proofs.Common.{◌≡◌, ℕ, ◌+◌, ◌-◌, Bool, List, [], ◌∷◌, ◌++◌, map, length, take, Some, Ok, Err, Option, Result, MatchResult, sym, refl, ap, ◌∙◌, arith}
+use Rattle.std.proofs.Common.{◌≡◌, ℕ, suc, ◌+◌, ◌-◌, ◌<◌, Bool, cond, ltb, List, [], ◌∷◌, ◌++◌, map, length, get_or, take, Some, Ok, Err, Option, Result, MatchResult, sym, refl, ap, ◌∙◌, arith}
 use Rattle.std.proofs.lemmas.List.{length-map, map-append, take-map}
+use Rattle.std.proofs.lemmas.Bool.{lt-ltb}
 use Rattle.std.specs.List.{flat_map}
 use Rattle.std.specs.Result.{result_and, result_err}
 use Rattle.book.specs.Cues.{cue_at}
@@ -13,6 +14,7 @@ use Rattle.events.specs.declared.Refusal.{Refusal}
 use Rattle.script.proofs.Tiling.{length_events}
 use Rattle.script.specs.Booking.{cues_at, size}
 use Rattle.script.specs.Report.{refused_or}
+use Rattle.sheet.proofs.Starts.{cues_more}
 use Rattle.sheet.proofs.Values.{listing_map}
 use Rattle.sheet.specs.Report.{cue_line, last_line, listing, sheet_listing}
 use Rattle.sheet.specs.Rows.{cues_from, sheet_of, starts_from}
@@ -24,13 +26,23 @@ listed_refused same h out place n ls ns lines stop r split some =
     sym (ap (λ xs. out ++ listing same h (cues_at place xs) lines stop) split ∙
     ap (λ o. out ++ cue_line o (cue_at place n) (length h.cues) (listing same (with_cue h (cue_at place n)) (cues_at (place + n) ns) lines stop)) some)
 
+-- The first cue ends where the next one begins, or with the events.
+first_length : (p n : ℕ) (c : List Values) (cues : List (List Values)) → n ≡ p + (length c + size cues) →
+    cond (ltb 1 (length (starts_from p (c ∷ cues)))) (get_or (starts_from p (c ∷ cues)) 1 0) n - p ≡ length c
+first_length p n c [] e = omega arith
+first_length p n c (d ∷ cues) e =
+    let more : 1 < suc (suc (length (starts_from (p + length c + length d) cues))) = omega arith in
+    let l : (p + length c) - p ≡ length c = omega arith in
+    ap (λ b. cond b (p + length c) n - p) (lt-ltb _ _ more) ∙ l
+
 -- Cues that begin one behind the other are those of their lengths.
 cues_tile : (p n : ℕ) (cues : List (List Values)) → n ≡ p + size cues → cues_from (starts_from p cues) n ≡ cues_at p (map length cues)
 cues_tile p n [] e = refl
-cues_tile p n (c ∷ []) e = let l : n - p ≡ length c = omega arith in ap (λ k. cue_at p k ∷ []) l
-cues_tile p n (c ∷ (d ∷ cs)) e =
-    let l : (p + length c) - p ≡ length c = omega arith in
-    ap (λ k. cue_at p k ∷ cues_from (starts_from (p + length c) (d ∷ cs)) n) l ∙ ap (λ xs. cue_at p (length c) ∷ xs) (cues_tile (p + length c) n (d ∷ cs) (omega arith))
+cues_tile p n (c ∷ cues) e =
+    let some : 0 < suc (length (starts_from (p + length c) cues)) = omega arith in
+    let l = first_length p n c cues e in
+    cues_more (starts_from p (c ∷ cues)) n 0 some ∙
+    (ap (λ k. cue_at p k ∷ cues_from (starts_from (p + length c) cues) n) l ∙ ap (λ xs. cue_at p (length c) ∷ xs) (cues_tile (p + length c) n cues (omega arith)))
 
 events_map : {E F : Type 0} (f : E → F) (cues : List (List E)) → flat_map (λ c. c) (map (map f) cues) ≡ map f (flat_map (λ c. c) cues)
 events_map f [] = refl
