@@ -5,16 +5,16 @@ ghost use Rattle.frames.specs.Answers.{WritesAnswers};
 
 use crate::frame::Frames;
 use std::alloc::{AllocError, Global};
-use std::io;
 use std::io::{Read, Write};
 
-// Reads the input to its end, and writes the answer to each frame, in their order.
+// Reads the input to its end, and writes the answer to each frame, in their order. An answer that wants memory is
+// that error as it is, and no error of reading or writing.
 pub fn answer_frames<I: Read, O: Write, F: Fn(Global, u8, &[u8]) -> Result<Vec<u8>, AllocError>>(
     heap: Global,
     input: &mut I,
     output: &mut O,
     answer: F,
-) -> io::Result<()>
+) -> anyhow::Result<()>
     requires { F.IsAlwaysCallable answer }
     ensures { OnOk result (WritesAnswers (λ frame said. (v : _) × F.post answer heap frame.letter frame.payload (Ok v) × (v.items ≡ said)) (I.remaining input.old) (O.contents output.old) (O.contents output.new)) }
 {
@@ -31,7 +31,6 @@ pub fn answer_frames<I: Read, O: Write, F: Fn(Global, u8, &[u8]) -> Result<Vec<u
 mod tests {
     use super::answer_frames;
     use std::alloc::{AllocError, Global};
-    use std::test::Fail;
 
     fn echo(heap: Global, letter: u8, payload: &[u8]) -> Result<Vec<u8>, AllocError> {
         let mut said = Vec::from_slice(heap, payload)?;
@@ -40,11 +39,11 @@ mod tests {
     }
 
     #[test]
-    fn answers_whole_frames(rt: HostRuntime) -> Result<(), Fail> {
+    fn answers_whole_frames(rt: HostRuntime) -> anyhow::Result<()> {
         let mut input = b"A       3\nabcB       0\nC       2\nd".as_slice();
         let mut output = Vec::new(rt.alloc());
         answer_frames(rt.alloc(), &mut input, &mut output, echo)?;
-        assert_eq!(rt; output.as_slice(), b"abcAB".as_slice());
+        assert!(rt; output.as_slice() == b"abcAB".as_slice());
         Ok(())
     }
 }

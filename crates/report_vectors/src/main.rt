@@ -38,6 +38,5 @@ fn answer(heap: Global, letter: u8, payload: &[u8]) -> Result<Vec<u8>, AllocErro
 }
 
 fn main(rt: HostRuntime) -> anyhow::Result<()> {
-    answer_frames(rt.alloc(), &mut rt.stdin(), &mut rt.stdout(), answer)?;
-    Ok(())
+    answer_frames(rt.alloc(), &mut rt.stdin(), &mut rt.stdout(), answer)
 }
