@@ -22,7 +22,7 @@ use watch::Watch;
 const ENTRIES: usize = 512;
 
 // The link engine alone: one step for each sign, and the sightings after each.
-pub fn bench_step(heap: Global, cues: Cues<'_>, signs: &[u16]) -> Result<Tally, Fault> {
+pub fn try_step(heap: Global, cues: Cues<'_>, signs: &[u16]) -> Result<Tally, Fault> {
     let book = cues.book(heap)?;
     let mut engine = LinkEngine::new(heap)?;
     engine.load(&book)?;
@@ -61,7 +61,7 @@ fn follow_rounds(
 }
 
 // The watch above the link engine: all events followed.
-pub fn bench_follow(heap: Global, cues: Cues<'_>, text: &[Number]) -> Result<Tally, Fault> {
+pub fn try_follow(heap: Global, cues: Cues<'_>, text: &[Number]) -> Result<Tally, Fault> {
     let book = cues.book(heap)?;
     let mut watch = Watch::new(heap, LinkEngine::new(heap)?);
     watch.load(&book)?;
@@ -69,8 +69,8 @@ pub fn bench_follow(heap: Global, cues: Cues<'_>, text: &[Number]) -> Result<Tal
     Ok(follow_rounds(&mut watch, &book, text, &mut entries))
 }
 
-// Writes the signs of the events under the book, for `bench_step`, as far as there is room.
-pub fn bench_signs(
+// Writes the signs of the events under the book, for `try_step`, as far as there is room.
+pub fn try_signs(
     heap: Global,
     cues: Cues<'_>,
     text: &[Number],
@@ -83,9 +83,35 @@ pub fn bench_signs(
     Ok(())
 }
 
+// The same with no fault: a status in the answer, which is the fault's where there is no book or engine.
+
+pub fn bench_step(heap: Global, cues: &[Number], lens: &[u16], signs: &[u16]) -> Tally {
+    Tally::from(try_step(heap, Cues { events: cues, lens }, signs))
+}
+
+pub fn bench_follow(heap: Global, cues: &[Number], lens: &[u16], text: &[Number]) -> Tally {
+    Tally::from(try_follow(heap, Cues { events: cues, lens }, text))
+}
+
+// The answer is the status alone.
+pub fn bench_signs(
+    heap: Global,
+    cues: &[Number],
+    lens: &[u16],
+    text: &[Number],
+    signs: &mut [u16],
+) -> u64 {
+    match try_signs(heap, Cues { events: cues, lens }, text, signs) {
+        Ok(()) => 0,
+        Err(fault) => fault.status(),
+    }
+}
+
 #[cfg(test)]
 mod tests {
-    use crate::{Cues, Fault, Number, bench_follow, bench_signs, bench_step};
+    use crate::{
+        Cues, Fault, Number, bench_follow, bench_signs, bench_step, try_follow, try_signs, try_step,
+    };
     use events::Refusal;
     use std::test::Fail;
 
@@ -98,10 +124,10 @@ mod tests {
             lens: &[2],
         };
         let mut signs = [0u16; 2];
-        bench_signs(rt.alloc(), cues, &CUES, &mut signs)?;
+        try_signs(rt.alloc(), cues, &CUES, &mut signs)?;
         assert_eq!(rt; signs.as_slice(), [0, 1].as_slice());
-        let stepped = bench_step(rt.alloc(), cues, &signs)?;
-        let followed = bench_follow(rt.alloc(), cues, &CUES)?;
+        let stepped = try_step(rt.alloc(), cues, &signs)?;
+        let followed = try_follow(rt.alloc(), cues, &CUES)?;
         assert_eq!(rt; stepped.sightings, 1);
         assert!(rt; stepped == followed);
         Ok(())
@@ -113,7 +139,20 @@ mod tests {
             events: &CUES,
             lens: &[0],
         };
-        let answer = bench_step(rt.alloc(), cues, &[]);
+        let answer = try_step(rt.alloc(), cues, &[]);
         assert!(rt; matches!(answer, Err(Fault::Refused(Refusal::EmptyCue))));
+    }
+
+    #[test]
+    fn answers_a_status(rt: HostRuntime) {
+        let heap = rt.alloc();
+        let mut signs = [0u16; 2];
+        assert_eq!(rt; bench_signs(heap, &CUES, &[2], &CUES, &mut signs), 0);
+        let stepped = bench_step(heap, &CUES, &[2], &signs);
+        assert_eq!(rt; stepped.sightings, 1);
+        assert!(rt; stepped == bench_follow(heap, &CUES, &[2], &CUES));
+        assert_eq!(rt; bench_step(heap, &CUES, &[0], &signs).status, 1);
+        assert_eq!(rt; bench_follow(heap, &CUES, &[3], &CUES).status, 3);
+        assert_eq!(rt; bench_signs(heap, &CUES, &[1, 1, 1], &CUES, &mut signs), 3);
     }
 }
