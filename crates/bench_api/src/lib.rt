@@ -39,7 +39,7 @@ pub fn try_step(heap: Global, cues: Cues<'_>, signs: &[u16]) -> Result<Tally, Fa
 // Follows the events in rounds, each with the same list of entries, and counts what is written. The reports write
 // a line for each entry instead and may want memory. A round that takes no event would take none again.
 fn follow_rounds(
-    watch: &mut Watch<LinkEngine>,
+    mut watch: Watch<LinkEngine>,
     book: &Book<Number>,
     text: &[Number],
     entries: &mut [Entry],
@@ -66,7 +66,7 @@ pub fn try_follow(heap: Global, cues: Cues<'_>, text: &[Number]) -> Result<Tally
     let mut watch = Watch::new(heap, LinkEngine::new(heap)?);
     watch.load(&book)?;
     let mut entries = [Entry::default(); ENTRIES];
-    Ok(follow_rounds(&mut watch, &book, text, &mut entries))
+    Ok(follow_rounds(watch, &book, text, &mut entries))
 }
 
 // Writes the signs of the events under the book, for `try_step`, as far as there is room.

@@ -1,2 +1,3 @@
 mod Steps
 mod Opened
+mod Seen

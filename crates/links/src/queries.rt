@@ -1,6 +1,8 @@
 // Reading a table that is built: the sightings of an entry.
 
+ghost use Rattle.std.specs.Prelude.{◌≡◌, ◌+◌, length, drop};
 ghost use Rattle.std.specs.Iterator.{YieldsFirst, item_count};
+ghost use Rattle.engine.specs.Statements.{ith};
 ghost use Rattle.links.specs.Tables.{ReadyIn, seen_at};
 
 use crate::table::Table;
@@ -22,14 +24,44 @@ impl<'a> Iterator for Sightings<'a> {
     ghost remaining = { item_count (λ s. seen_at s.table.now s.at) };
 
     fn next(&mut self) -> Option<(u16, u16)> {
+        self.nth(0)
+    }
+}
+
+// The type's own `count` and `nth` are called in place of those of `Iterator`, which may not be overridden. Those go
+// by `next` and branch at each entry on whether it is a whole cue. Where such entries and others are mixed, a
+// processor cannot foresee that, so here an entry adds or takes 1 or 0.
+impl<'a> Sightings<'a> {
+    // How many sightings are left.
+    pub(crate) fn count(self) -> usize
+        ensures { result ≡ length (seen_at self.entry.table.now self.entry.at) }
+    {
+        let mut count = 0;
+        let mut link = self.at;
+        while link != 0 {
+            let node = self.table.node(link);
+            count += usize::from(node.whole.is_some());
+            link = node.link;
+        }
+        count
+    }
+
+    // Passes over n sightings and gives the next.
+    pub(crate) fn nth(&mut self, n: usize) -> Option<(u16, u16)>
+        ensures value { result ≡ ith (n + 1) (seen_at self.old.table.now self.old.at) }
+        ensures rest { seen_at self.new.table.now self.new.at ≡ drop (n + 1) (seen_at self.old.table.now self.old.at) }
+    {
+        let mut left = n;
         let mut at = self.at;
         while at != 0 {
             let node = self.table.node(at);
+            let here = usize::from(node.whole.is_some());
             at = node.link;
-            if let Some(number) = node.whole {
+            if left < here {
                 self.at = at;
-                return Some((number, node.len));
+                return Some((node.whole?, node.len));
             }
+            left -= here;
         }
         self.at = 0;
         None
