@@ -40,14 +40,14 @@ pub fn try_step(heap: Global, cues: Cues<'_>, signs: &[u16]) -> Result<Tally, Fa
 // a line for each entry instead and may want memory. A round that takes no event would take none again.
 fn follow_rounds(
     mut watch: Watch<LinkEngine>,
-    book: &Book<Number>,
+    book: Book<Number>,
     text: &[Number],
     entries: &mut [Entry],
 ) -> Tally {
     let mut tally = Tally::default();
     let mut rest = text;
     while !rest.is_empty() {
-        let followed = watch.follow(book, rest, entries);
+        let followed = watch.follow(&book, rest, entries);
         let written = entries.get(..followed.written).unwrap_or(&[]);
         for entry in written {
             tally.count(u64::from(entry.place), entry.cue, entry.len);
@@ -66,7 +66,7 @@ pub fn try_follow(heap: Global, cues: Cues<'_>, text: &[Number]) -> Result<Tally
     let mut watch = Watch::new(heap, LinkEngine::new(heap)?);
     watch.load(&book)?;
     let mut entries = [Entry::default(); ENTRIES];
-    Ok(follow_rounds(watch, &book, text, &mut entries))
+    Ok(follow_rounds(watch, book, text, &mut entries))
 }
 
 // Writes the signs of the events under the book, for `try_step`, as far as there is room.

@@ -40,30 +40,37 @@ module _ (t : Table) (from : ℕ) (r : ReadyIn t from) where
   pub seen_root : seen_at t 0 ≡ []
   seen_root = sightings_root (cues_in t) (vec_items t.nodes) t.heads.value from r
 
-  -- an entry that is not the root
-  module _ (at : ℕ) (n : Node) (p : 0 < at) (h : at < length (vec_items t.nodes)) (e : n ≡ node_at (vec_items t.nodes) at) where
-    pub link_older : n.link < at
-    link_older = omega (arith, ap (λ m. m.link) e, (r.sound.entries at p h).link)
+  -- an entry that is not the root, and the one that its link names
+  module _ (at : ℕ) (n : Node) (p : 0 < at) (h : at < length (vec_items t.nodes)) (e : n ≡ node_at (vec_items t.nodes) at) (to : ℕ) (named : to ≡ n.link) where
+    pub link_older : to < at
+    link_older = omega (arith, named, ap (λ m. m.link) e, (r.sound.entries at p h).link)
 
-    seen_link : seen_at t at ≡ exact_of n.whole n.len ++ seen_at t n.link
+    seen_link : seen_at t at ≡ exact_of n.whole n.len ++ seen_at t to
     seen_link =
-        sightings_entry (cues_in t) (vec_items t.nodes) t.heads.value from r at p h ∙ ap (λ m. exact_of m.whole m.len ++ seen_at t m.link) (sym e)
+        sightings_entry (cues_in t) (vec_items t.nodes) t.heads.value from r at p h ∙ ap (λ m. exact_of m.whole m.len ++ seen_at t m.link) (sym e) ∙ ap (λ l. exact_of n.whole n.len ++ seen_at t l) (sym named)
 
     -- what is added for it
     module _ (b : Bool) (some : b ≡ is_some n.whole) (here : ℕ) (one : here ≡ from_bool b) where
       own : here ≡ length (exact_of n.whole n.len)
       own = one ∙ ap from_bool some ∙ own_count n.whole n.len
 
-      pub seen_count : here + length (seen_at t n.link) ≡ length (seen_at t at)
-      seen_count = omega (arith, own, ap length seen_link ∙ length-append (exact_of n.whole n.len) (seen_at t n.link))
+      pub seen_count : here + length (seen_at t to) ≡ length (seen_at t at)
+      seen_count = omega (arith, own, ap length seen_link ∙ length-append (exact_of n.whole n.len) (seen_at t to))
 
-      pub seen_behind : (left : ℕ) → here ≤ left → (ith (left - here + 1) (seen_at t n.link) ≡ ith (left + 1) (seen_at t at)) × (drop (left - here + 1) (seen_at t n.link) ≡ drop (left + 1) (seen_at t at))
-      seen_behind left l = (
-        ap (λ k. ith (left - k + 1) (seen_at t n.link)) own ∙ ith_behind n.whole n.len left (seen_at t n.link) (omega (arith, own, l)) ∙ ap (ith (left + 1)) (sym seen_link),
-        ap (λ k. drop (left - k + 1) (seen_at t n.link)) own ∙ drop_behind n.whole n.len left (seen_at t n.link) (omega (arith, own, l)) ∙ ap (drop (left + 1)) (sym seen_link),
+      -- counting goes on there
+      pub counted : (count total : ℕ) → count + length (seen_at t at) ≡ total → (to < length (vec_items t.nodes)) × (count + here + length (seen_at t to) ≡ total)
+      counted count total e = (omega (arith, link_older, h), omega (arith, seen_count, e))
+
+      -- what is sought is behind it, and is sought there
+      pub passed : (left : ℕ) (x : Option (ℕ × ℕ)) (ys : List (ℕ × ℕ)) → here ≤ left → ith (left + 1) (seen_at t at) ≡ x → drop (left + 1) (seen_at t at) ≡ ys → (to < length (vec_items t.nodes)) × (ith (left - here + 1) (seen_at t to) ≡ x) × (drop (left - here + 1) (seen_at t to) ≡ ys)
+      passed left x ys l e f = (
+        omega (arith, link_older, h),
+        ap (λ k. ith (left - k + 1) (seen_at t to)) own ∙ ith_behind n.whole n.len left (seen_at t to) (omega (arith, own, l)) ∙ ap (ith (left + 1)) (sym seen_link) ∙ e,
+        ap (λ k. drop (left - k + 1) (seen_at t to)) own ∙ drop_behind n.whole n.len left (seen_at t to) (omega (arith, own, l)) ∙ ap (drop (left + 1)) (sym seen_link) ∙ f,
       )
 
-      pub seen_first : (c left : ℕ) → n.whole ≡ Some c → left < here → (Some (c, n.len) ≡ ith (left + 1) (seen_at t at)) × (seen_at t n.link ≡ drop (left + 1) (seen_at t at))
-      seen_first c left is l =
-          let first = first_here n.whole c n.len left (seen_at t n.link) is (omega (arith, own, l)) in
-          (first.0 ∙ ap (ith (left + 1)) (sym seen_link), first.1 ∙ ap (drop (left + 1)) (sym seen_link))
+      -- or is the first here
+      pub first : (c left : ℕ) → n.whole ≡ Some c → left < here → (Some (c, n.len) ≡ ith (left + 1) (seen_at t at)) × (seen_at t to ≡ drop (left + 1) (seen_at t at))
+      first c left is l =
+          let f = first_here n.whole c n.len left (seen_at t to) is (omega (arith, own, l)) in
+          (f.0 ∙ ap (ith (left + 1)) (sym seen_link), f.1 ∙ ap (drop (left + 1)) (sym seen_link))

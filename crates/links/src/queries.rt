@@ -29,8 +29,8 @@ impl<'a> Iterator for Sightings<'a> {
 }
 
 // The type's own `count` and `nth` are called in place of those of `Iterator`, which may not be overridden. Those go
-// by `next` and branch at each entry on whether it is a whole cue. Where such entries and others are mixed, a
-// processor cannot foresee that, so here an entry adds or takes 1 or 0.
+// by `next`, which stops at each entry that is a whole cue: a branch that a processor cannot foresee where such
+// entries and others are mixed. Here an entry adds or takes 1 or 0, and the walk stops once, at its end.
 impl<'a> Sightings<'a> {
     // How many sightings are left.
     pub(crate) fn count(self) -> usize
