@@ -38,6 +38,7 @@ pub fn try_step(heap: Global, cues: Cues<'_>, signs: &[u16]) -> Result<Tally, Fa
 
 // Follows the events in rounds, each with the same list of entries, and counts what is written. The reports write
 // a line for each entry instead and may want memory. A round that takes no event would take none again.
+// Watch and book are its own: of a borrowed watch each event would write the fields back to memory.
 fn follow_rounds(
     mut watch: Watch<LinkEngine>,
     book: Book<Number>,
