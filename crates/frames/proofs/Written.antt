@@ -4,6 +4,8 @@ use Rattle.std.proofs.lemmas.List.{append-nil, append_assoc}
 use Rattle.std.specs.Io.KnownBytes.{Appends}
 use Rattle.frames.specs.declared.frame.Frame.{Frame}
 use Rattle.frames.specs.Answers.{Answered, WritesAnswers}
+use Rattle.frames.specs.Answers.Answered.{a_frame}
+use Rattle.frames.specs.Frames.{GivesFrame}
 
 pub appends_nothing : (held : Option (List ℕ)) → Appends held held []
 appends_nothing None = tt
@@ -20,3 +22,14 @@ pub writes_answers : (Says : Frame → List ℕ → Type 0) (known old new : Opt
 writes_answers Says None old new start read input written s k i a h = tt
 writes_answers Says (Some xs) old new start read input written s k i a h =
     (written, subst (λ w. Answered Says xs w) (append-nil written) (subst (λ b. Answered Says b (written ++ [])) (i ∙ k ∙ ap (λ t. t ++ xs) s) a), h)
+
+-- what is written is the answers to the frames so far, and one frame more is answered
+pub frame_answered : (Says : Frame → List ℕ → Type 0) (held now new : Option (List ℕ)) (start input left said : List ℕ) (frame : Frame) →
+    (written : List ℕ) × Appends held now written × ((more : List ℕ) → Answered Says input more → Answered Says start (written ++ more)) →
+    GivesFrame input (Some frame) left → Says frame said → Appends now new said →
+    (written : List ℕ) × Appends held new written × ((more : List ℕ) → Answered Says left more → Answered Says start (written ++ more))
+frame_answered Says held now new start input left said frame (written, held-now, sofar) gives says appends = (
+  written ++ said,
+  appends_both held now new written said held-now appends,
+  λ more a. subst (Answered Says start) (sym (append_assoc written said more)) (sofar (said ++ more) (a_frame input left said more frame gives says a)),
+)

@@ -5,8 +5,10 @@
 
 mod answers;
 mod frame;
+mod io_answers;
 mod words;
 
-pub use answers::answer_frames;
+pub use answers::answer_frames_anyhow;
 pub use frame::{Frame, Frames};
+pub use io_answers::answer_frames;
 pub use words::number_in;

@@ -4,7 +4,7 @@
 #![tactic(auto)]
 
 use airing_report::airings_report;
-use frames::answer_frames;
+use frames::answer_frames_anyhow;
 use note_report::notes_report;
 use std::alloc::{AllocError, Global};
 
@@ -38,5 +38,5 @@ fn answer(heap: Global, letter: u8, payload: &[u8]) -> Result<Vec<u8>, AllocErro
 }
 
 fn main(rt: HostRuntime) -> anyhow::Result<()> {
-    answer_frames(rt.alloc(), &mut rt.stdin(), &mut rt.stdout(), answer)
+    answer_frames_anyhow(rt.alloc(), &mut rt.stdin(), &mut rt.stdout(), answer)
 }

@@ -5,7 +5,7 @@
 
 use columns::{Line, Section, entry_line, read_line, refusal_line, total_line};
 use events::Refusal;
-use frames::{answer_frames, number_in};
+use frames::{answer_frames_anyhow, number_in};
 use sheet::sheet_report;
 use std::alloc::{AllocError, Global};
 use std::fmt;
@@ -94,5 +94,5 @@ fn answer(heap: Global, letter: u8, payload: &[u8]) -> Result<Vec<u8>, AllocErro
 }
 
 fn main(rt: HostRuntime) -> anyhow::Result<()> {
-    answer_frames(rt.alloc(), &mut rt.stdin(), &mut rt.stdout(), answer)
+    answer_frames_anyhow(rt.alloc(), &mut rt.stdin(), &mut rt.stdout(), answer)
 }

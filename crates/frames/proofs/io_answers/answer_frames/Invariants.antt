@@ -2,7 +2,7 @@ use Rattle.std.proofs.Common.{◌≡◌, Ok, ℕ, List, ◌++◌}
 use Rattle.std.specs.Io.KnownBytes.{Appends}
 use Rattle.frames.specs.Frames.{rest_of}
 use Rattle.frames.specs.Answers.{Answered}
-use Rattle.frames.proofs.answers.answer_frames.Given as goal
+use Rattle.frames.proofs.io_answers.answer_frames.Given as goal
 
 abbrev pub invariant-loop-frame : goal.invariant-loop-frame
 invariant-loop-frame g l =
