@@ -9,8 +9,8 @@ use std::io;
 use std::io::{Read, Write};
 
 // Reads the input to its end, and writes the answer to each frame, in their order. A failed read or write is that
-// error, with its kind, and an answer that wants memory is an error of the kind `OutOfMemory`. It has a body of its
-// own, since an error of `answer_frames_anyhow` is text alone.
+// error, with its kind, and an answer that wants memory is an error of the kind `OutOfMemory`; no clause says so. It
+// cannot call `answer_frames_anyhow`, whose error is text alone.
 pub fn answer_frames<I: Read, O: Write, F: Fn(Global, u8, &[u8]) -> Result<Vec<u8>, AllocError>>(
     heap: Global,
     input: &mut I,
